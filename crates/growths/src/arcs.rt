@@ -107,29 +107,36 @@ fn upgrade<R: Wait + Clock + Drop>(rt: &R, lock: &Shared<'_, R>, ask: Ask, now: 
     }
 }
 
+fn in_arc<T: Drop, E: Drop>(heap: &Heap, lock: Result<T, E>) -> Option<Arc<T, &Heap>> {
+    match lock {
+        Ok(lock) => Arc::new(heap, lock).ok(),
+        Err(_) => None,
+    }
+}
+
 fn on_mutex<R: Wait + Clock + Copy + Drop>(rt: R, heap: &Heap, ask: Ask) -> Option<Seen> {
     let now = Instant::now(&rt).ok()?;
-    let mutex = Arc::new(heap, Mutex::new(rt, 5).ok()?).ok()?;
+    let mutex = in_arc(heap, Mutex::new(rt, 5))?;
     let before = heap.asked();
     lock(&rt, &mutex, ask, now).seen(heap, before, !mutex.is_locked())
 }
 
 fn on_nested<R: Wait + Clock + Copy + Drop>(rt: R, heap: &Heap, ask: Ask) -> Option<Seen> {
     let now = Instant::now(&rt).ok()?;
-    let mutex = Arc::new(heap, ReentrantMutex::new(rt, 2, 5).ok()?).ok()?;
+    let mutex = in_arc(heap, ReentrantMutex::new(rt, 2, 5))?;
     let before = heap.asked();
     nest(&rt, &mutex, ask, now).seen(heap, before, !mutex.is_locked())
 }
 
 fn on_lock<R: Wait + Clock + Copy + Drop>(rt: R, heap: &Heap, call: OfArc) -> Option<Seen> {
     let now = Instant::now(&rt).ok()?;
-    let lock = Arc::new(heap, RwLock::new(rt, 4, 5).ok()?).ok()?;
+    let lock = in_arc(heap, RwLock::new(rt, 4, 5))?;
     let before = heap.asked();
     let said = match call {
         OfArc::Reads(ask) => read(&rt, &lock, ask, now),
         OfArc::Writes(ask) => write(&rt, &lock, ask, now),
         OfArc::Upgrades(ask) => upgrade(&rt, &lock, ask, now),
-        OfArc::Locks(_) | OfArc::Nests(_) => Said::Other,
+        _ => Said::Other,
     };
     said.seen(heap, before, !lock.is_locked())
 }

@@ -1,6 +1,6 @@
 //! Maps and views that are taken apart in parallel, and the calls of views.
 
-use crate::rows::{Map, Me, On, Row, Table, are_free, map_of, put};
+use crate::rows::{EACH, Map, Me, On, Row, Table, are_free, map_of, put};
 use crate::turns::{Heap, Line, Said, Seen, listed, made};
 use dashmap_plain::clones::CloneView;
 use dashmap_plain::{Plain, ReadOnlyView};
@@ -86,8 +86,6 @@ pub fn with_view<R: Wait + Threads + Sync + Send>(
     }
     ask_view(heap, table, &view, call)
 }
-
-const EACH: &str = "each pair; no hold";
 
 const COLLECT: On = On::View(Viewed::MapCollect);
 

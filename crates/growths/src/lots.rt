@@ -118,20 +118,26 @@ fn admit<R: Wait>(heap: &Heap, lot: &Shared<'_, R>, threads: usize) -> Option<Se
     Seen::of(before, behind, is_right)
 }
 
-/// Records a resource of a thread, or lists it, which may do with less memory than it asks for first.
-fn note<R: Wait>(heap: &Heap, lot: &Shared<'_, R>, is_list: bool) -> Option<Seen> {
+/// Records a resource of a thread.
+fn note<R: Wait>(heap: &Heap, lot: &Shared<'_, R>) -> Option<Seen> {
     let mut me = lot.thread_data().ok()?;
     let before = heap.asked();
     let said = made(deadlock::acquire_resource(&mut me, 9), LotFault::NoMemory);
-    let noted = heap.asked();
+    let behind = heap.asked();
     let count = if said == Said::Done { 1 } else { 0 };
     let list = listed(deadlock::resources(&me), count, LotFault::NoMemory);
+    Seen::of(before, behind, said.fits(heap) && list == Said::Done)
+}
+
+/// Lists the resource of a thread, which may do with less memory than it asks for first.
+fn list<R: Wait>(heap: &Heap, lot: &Shared<'_, R>) -> Option<Seen> {
+    let mut me = lot.thread_data().ok()?;
+    deadlock::acquire_resource(&mut me, 9).ok()?;
+    let before = heap.asked();
+    let said = listed(deadlock::resources(&me), 1, LotFault::NoMemory);
     let behind = heap.asked();
-    if is_list {
-        let again = listed(deadlock::resources(&me), count, LotFault::NoMemory);
-        return Seen::of(noted, behind, list.may_fit(heap) && again == Said::Done);
-    }
-    Seen::of(before, noted, said.fits(heap) && list == Said::Done)
+    let again = listed(deadlock::resources(&me), 1, LotFault::NoMemory);
+    Seen::of(before, behind, said.may_fit(heap) && again == Said::Done)
 }
 
 /// Makes a table of three locks. A refused one has claimed no key of the lot, of which each lock has two.
@@ -147,15 +153,15 @@ fn make_table<'h, R: Wait>(heap: &'h Heap, lot: &Shared<'h, R>) -> Option<Seen> 
 impl<R: Wait + Copy + Drop> Case<R> for SharedCall {
     fn run(self, rt: R, heap: &Heap) -> Option<Seen> {
         let before = heap.asked();
-        let lot = ParkingLot::new(rt, heap, MOST, 7);
         if let SharedCall::New = self {
+            let lot = ParkingLot::new(rt, heap, MOST, 7);
             return made(lot, SizeFault::NoMemory).seen(heap, before, true);
         }
-        let lot = lot.ok()?;
+        let lot = ParkingLot::new(rt, heap, MOST, 7).ok()?;
         match self {
             SharedCall::ThreadData(threads) => admit(heap, &lot, threads),
-            SharedCall::AcquireResource => note(heap, &lot, false),
-            SharedCall::Resources => note(heap, &lot, true),
+            SharedCall::AcquireResource => note(heap, &lot),
+            SharedCall::Resources => list(heap, &lot),
             SharedCall::New | SharedCall::LockTable => make_table(heap, &lot),
         }
     }

@@ -73,7 +73,11 @@ fn map_of<'h, R: Wait>(
 }
 
 /// Makes a map. The rows that it took stay used, of a refused one too.
-pub fn make<R: Wait + RandomSource>(heap: &Heap, table: &Table<'_, R>, make: Make) -> Option<Seen> {
+pub fn make_map<R: Wait + RandomSource>(
+    heap: &Heap,
+    table: &Table<'_, R>,
+    make: Make,
+) -> Option<Seen> {
     if let Make::Iter | Make::ParIter = make {
         let pairs = pairs(heap)?;
         let before = heap.asked();

@@ -18,7 +18,7 @@ mod tables;
 mod turns;
 mod worlds;
 
-use std::io;
+use rows::print_rows;
 use std::process::ExitCode;
 use std::random::RandomSource;
 use std::rt::Clock;
@@ -26,46 +26,48 @@ use std::sync::Wait;
 use std::thread::Threads;
 use turns::print_lines;
 
+/// Prints the head of the table.
+fn print_head<R: Print + Drop>(rt: R) -> bool {
+    println!(rt; "| Call | Growths refused | What stood |\n|---|---|---|").is_ok()
+}
+
 /// Prints the calls of locks, lots and worlds, and answers whether all stood.
-fn print_locks<R: AllocGlobal + Print + Wait + Clock + Copy + Drop>(rt: R) -> io::Result<bool> {
-    println!(rt; "| Call | Growths refused | What stood |\n|---|---|---|")?;
-    let mut all = print_lines(rt, "Mutex::", arcs::OF_MUTEX)?;
-    all &= print_lines(rt, "ReentrantMutex::", arcs::OF_NESTED)?;
-    all &= print_lines(rt, "RwLock::", arcs::OF_LOCK)?;
-    all &= print_lines(rt, "Desk::", desk::LINES)?;
-    all &= print_lines(rt, "Lot::", lots::LINES)?;
-    all &= print_lines(rt, "", lots::SHARED)?;
-    all &= print_lines(rt, "World::", worlds::LINES)?;
-    Ok(all)
+fn print_locks<R: AllocGlobal + Print + Wait + Clock + Copy + Drop>(rt: R) -> bool {
+    let mut all = print_head(rt);
+    all &= print_lines(rt, "Mutex::", arcs::OF_MUTEX);
+    all &= print_lines(rt, "ReentrantMutex::", arcs::OF_NESTED);
+    all &= print_lines(rt, "RwLock::", arcs::OF_LOCK);
+    all &= print_lines(rt, "Desk::", desk::LINES);
+    all &= print_lines(rt, "Lot::", lots::LINES);
+    all &= print_lines(rt, "", lots::SHARED);
+    all &= print_lines(rt, "World::", worlds::LINES);
+    all
 }
 
 /// Prints the table, and answers whether all stood.
 fn print_all<
     R: AllocGlobal + Print + Wait + Threads + Clock + RandomSource + Copy + Send + Sync + Drop,
->(rt: R) -> io::Result<bool> {
-    let mut all = print_locks(rt)?;
-    all &= print_lines(rt, "Shard::", tables::ON_SHARD)?;
-    all &= print_lines(rt, "Shards::", tables::ON_SHARDS)?;
-    all &= print_lines(rt, "SharedValue::", tables::OF_VALUES)?;
-    all &= print_lines(rt, "DashMap::", made::LINES)?;
-    all &= print_lines(rt, "DashMap::", maps::LINES)?;
-    all &= print_lines(rt, "DashMap::", owners::OF_TEXT)?;
-    all &= print_lines(rt, "DashMap::", owners::LINES)?;
-    all &= print_lines(rt, "DashSet::", made::OF_SETS)?;
-    all &= print_lines(rt, "Recorded::", records::LINES)?;
-    all &= print_lines(rt, "", records::WHOLE)?;
-    all &= print_lines(rt, "DashMap::", owners::FORMS)?;
-    all &= print_lines(rt, "", forms::VIEWS)?;
-    all &= print_lines(rt, "DashSet::", sets::LINES)?;
-    all &= print_lines(rt, "MapWorld::", map_worlds::WHOLE)?;
-    all &= print_lines(rt, "a world's ", map_worlds::LINES)?;
-    Ok(all)
+>(rt: R) -> bool {
+    let mut all = print_locks(rt);
+    all &= print_lines(rt, "", tables::LINES);
+    all &= print_rows(rt, "DashMap::", made::LINES);
+    all &= print_rows(rt, "DashMap::", maps::LINES);
+    all &= print_rows(rt, "DashMap::", owners::LINES);
+    all &= print_rows(rt, "DashSet::", made::OF_SETS);
+    all &= print_rows(rt, "Recorded::", records::LINES);
+    all &= print_rows(rt, "", records::WHOLE);
+    all &= print_rows(rt, "DashMap::", owners::FORMS);
+    all &= print_rows(rt, "", forms::VIEWS);
+    all &= print_rows(rt, "DashSet::", sets::LINES);
+    all &= print_lines(rt, "MapWorld::", map_worlds::WHOLE);
+    all &= print_lines(rt, "a world's ", map_worlds::LINES);
+    all
 }
 
 /// Succeeds where all stood. A failed write is not told, since nobody may be listening.
 fn main(rt: HostRuntime) -> ExitCode {
     match print_all(rt) {
-        Ok(true) => ExitCode::SUCCESS,
-        _ => ExitCode::FAILURE,
+        true => ExitCode::SUCCESS,
+        false => ExitCode::FAILURE,
     }
 }

@@ -103,18 +103,12 @@ fn is_told(alloc: Global, world: &World<'_>, wanted: &str) -> bool {
     tell(world, &mut text).is_ok() && text.as_str() == wanted
 }
 
-fn is_empty(world: &World<'_>, key: usize) -> bool {
-    match world.queue(key) {
-        Ok(threads) => threads.is_empty(),
-        Err(_) => false,
-    }
-}
-
 /// Whether each word is 0, nobody waits in a queue, and each thread is at its end.
 fn is_at_rest(world: &World<'_>) -> bool {
     let mut rests = true;
     for key in 0..2 * SHARDS {
-        rests &= is_empty(world, key) && world.word(key / 2) == 0;
+        let queue = listed(world.queue(key), 0, NoMemory);
+        rests &= queue == Said::Done && world.word(key / 2) == 0;
     }
     for thread in 0..world.threads() {
         rests &= world.status(thread) == Status::Finished;

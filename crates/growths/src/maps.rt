@@ -1,6 +1,6 @@
 //! Calls on maps as data.
 
-use crate::rows::{Map, Me, On, Table, are_free, map_of};
+use crate::rows::{EACH, Map, Me, On, PAIR, Table, are_free, map_of};
 use crate::turns::{Heap, Line, Seen, refused_growth};
 use dashmap_calls::{Answer, Call, Keyed, Many, Operator, Place, Try, Walk, make};
 use std::sync::Wait;
@@ -102,13 +102,9 @@ const YES: Answer = Answer::Flag(true);
 
 const NO: &[Answer] = &[Answer::Flag(false)];
 
-const PAIR: &str = "the pair comes back; each other pair; no hold";
-
 const KEY: &str = "the key comes back; no pair; no hold";
 
 const ITEMS: &str = "the items before it; the walk is over; no hold";
-
-const EACH: &str = "each pair; no hold";
 
 const TAKES_NONE: &str = "takes none";
 

@@ -2,7 +2,8 @@
 //! key owns memory.
 
 use crate::rows::{
-    FROM, Map, Me, On, Row, SHARDS, TO, Table, Team, are_free, are_taken, has, map_of, pairs, put,
+    EACH, FROM, MIDDLE, Map, Me, On, PAIR, Row, SHARDS, TO, Table, Team, are_free, are_taken, has,
+    map_of, pairs, put,
 };
 use crate::turns::{Heap, Line, Said, Seen, listed, made, refused_growth};
 use dashmap_calls::{Answer, Call, Keyed, Many, make};
@@ -240,17 +241,11 @@ pub fn insert_entry<R: Wait>(heap: &Heap, table: &Table<'_, R>, me: &mut Me) -> 
     ask_texts(heap, table, &map, me)
 }
 
-const PAIR: &str = "the pair comes back; each other pair; no hold";
-
-const MIDDLE: &str = "the pair comes back; those before it; none behind it";
-
 const ROOM: &str = "each pair; room of earlier shards";
 
 const ROWS: &str = "each pair; no hold; rows of the table stay used";
 
 const PUT: &str = "pairs that were put in; no hold";
-
-const EACH: &str = "each pair; no hold";
 
 const RESERVED: On = On::Owned(Owned::TryReserve);
 
@@ -260,7 +255,12 @@ const SHARED: On = On::Owned(Owned::ParExtendShared);
 
 const COLLECTED: On = On::Owned(Owned::MapCollect);
 
+const STANDS: &str = "entry and value come back; each other pair; no hold";
+
+const CALL: &str = "entry(..).insert_entry, of a text";
+
 pub const LINES: &[Line<On>] = &[
+    (CALL, On::InsertEntry, STANDS),
     ("insert_mut", On::Owned(Owned::InsertMut), PAIR),
     ("insert_until", On::Owned(Owned::InsertUntil), PAIR),
     ("try_reserve, two shards", RESERVED, ROOM),
@@ -274,9 +274,3 @@ pub const FORMS: &[Line<On>] = &[
     ("par_iter().map_collect", COLLECTED, EACH),
     ("into_par_iter().map_collect", On::Collect, "no list"),
 ];
-
-const STANDS: &str = "entry and value come back; each other pair; no hold";
-
-const CALL: &str = "entry(..).insert_entry, of a text";
-
-pub const OF_TEXT: &[Line<On>] = &[(CALL, On::InsertEntry, STANDS)];

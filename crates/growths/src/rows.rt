@@ -1,17 +1,18 @@
 //! Calls on maps, sets and recorded maps, each over rows of a new table of locks.
 
 use crate::forms::{Viewed, collect_all, with_view};
-use crate::made::{Make, make, make_set};
+use crate::made::{Make, make_map, make_set};
 use crate::maps::{OnMap, ask_map};
 use crate::owners::{Owned, ask_owner, insert_entry};
 use crate::records::{OnRecord, gather_twelve, make_record, with_record};
 use crate::sets::{OnSet, with_set};
-use crate::turns::{Case, Heap, Seen};
+use crate::turns::{Heap, Line, Seen, print_line};
 use dashmap_calls::{Answer, Call, Many, Numbers, make as answer};
 use dashmap_map::DashMap;
 use dashmap_table::{MapFault, SpreadState};
 use parking_lot_core::{ParkingLot, ThreadData};
 use parking_lot_rwlock::{LockTable, RawRwLock};
+use refusing_heap::{Refusal, RefusingHeap, Wrong};
 use std::alloc::{Allocator, Global};
 use std::random::RandomSource;
 use std::rt::Clock;
@@ -30,6 +31,12 @@ pub type Map<'t, 'l, 'h, R> = Numbers<SpreadState, Row<'t, 'l, R>, &'h Heap>;
 const ROWS: usize = 16;
 
 pub const SHARDS: usize = 2;
+
+pub const PAIR: &str = "the pair comes back; each other pair; no hold";
+
+pub const MIDDLE: &str = "the pair comes back; those before it; none behind it";
+
+pub const EACH: &str = "each pair; no hold";
 
 pub const FROM: u64 = 10;
 
@@ -118,7 +125,7 @@ fn ask<R: Wait + Threads + Clock + RandomSource + Sync + Send>(
     call: On,
 ) -> Option<Seen> {
     match call {
-        On::Make(call) => make(heap, table, call),
+        On::Make(call) => make_map(heap, table, call),
         On::MakeSet(call) => make_set(heap, table, call),
         On::InsertEntry => insert_entry(heap, table, &mut team.me),
         On::Collect => collect_all(heap, table, &mut team.me),
@@ -132,10 +139,6 @@ fn ask<R: Wait + Threads + Clock + RandomSource + Sync + Send>(
     }
 }
 
-fn admit<R: Wait>(lot: &ParkingLot<R>, tds: &mut Vec<ThreadData>) -> Option<()> {
-    tds.push(lot.thread_data().ok()?).ok()
-}
-
 /// Makes a call over a table, by a thread or two others.
 fn over<R: Wait + Threads + Clock + RandomSource + Sync + Send>(
     heap: &Heap,
@@ -146,15 +149,51 @@ fn over<R: Wait + Threads + Clock + RandomSource + Sync + Send>(
     let me = lot.thread_data().ok()?;
     let others = Vec::new(*heap.inner());
     let mut team = Team { me, others };
-    admit(lot, &mut team.others)?;
-    admit(lot, &mut team.others)?;
+    team.others.push(lot.thread_data().ok()?).ok()?;
+    team.others.push(lot.thread_data().ok()?).ok()?;
     ask(heap, table, &mut team, call)
 }
 
-impl<R: Wait + Threads + Clock + RandomSource + Sync + Send + Copy + Drop> Case<R> for On {
-    fn run(self, rt: R, heap: &Heap) -> Option<Seen> {
-        let lot = ParkingLot::new(rt, *heap.inner(), 3, 7).ok()?;
-        let table = LockTable::new(*heap.inner(), &lot, ROWS).ok()?;
-        over(heap, &table, self)
+fn run<R: Wait + Threads + Clock + RandomSource + Sync + Send + Copy + Drop>(
+    rt: R,
+    heap: &Heap,
+    call: On,
+) -> Option<Seen> {
+    let lot = ParkingLot::new(rt, *heap.inner(), 3, 7).ok()?;
+    let table = LockTable::new(*heap.inner(), &lot, ROWS).ok()?;
+    over(heap, &table, call)
+}
+
+/// As `make_in_turn`. These calls are no `Case`, since what some send to threads rests on bounds that a case hasn't.
+fn run_in_turn<R: Wait + Threads + Clock + RandomSource + Sync + Send + Copy + Drop>(
+    rt: R,
+    alloc: Global,
+    call: On,
+) -> Result<u64, Wrong> {
+    let seen = run(rt, &RefusingHeap::new(alloc, Refusal::Never), call).ok_or(Wrong::Unprepared)?;
+    if !seen.stood {
+        return Err(Wrong::Ample);
     }
+    let growths = seen.behind.saturating_sub(seen.before);
+    for growth in 0..growths {
+        let number = seen.before.saturating_add(growth).saturating_add(1);
+        let heap = RefusingHeap::new(alloc, Refusal::Once(number));
+        let stood = run(rt, &heap, call).ok_or(Wrong::Unprepared)?.stood;
+        if !stood || heap.refused() != 1 {
+            return Err(Wrong::Refused(growth.saturating_add(1)));
+        }
+    }
+    Ok(growths)
+}
+
+pub fn print_rows<
+    R: AllocGlobal + Print + Wait + Threads + Clock + RandomSource + Copy + Send + Sync + Drop,
+>(rt: R, of: &str, lines: &[Line<On>]) -> bool {
+    let mut all = true;
+    for &(call, case, stands) in lines {
+        let said = run_in_turn(rt, rt.alloc(), case);
+        let is_right = said.is_ok();
+        all &= print_line(rt, of, call, said, stands).is_ok() && is_right;
+    }
+    all
 }

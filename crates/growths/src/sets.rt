@@ -59,12 +59,11 @@ fn compared<R: Wait>(set: &Set<'_, '_, '_, R>, came: Came, me: &mut Me) -> Said 
             true => Said::of(said == Ok(true), false),
             false => Said::of(false, said == Err(5)),
         },
-        Came::Extended(Ok(())) => Said::of(put == 20, false),
+        Came::Extended(Ok(())) | Came::Shared(Ok(())) => Said::of(put == 20, false),
         Came::Extended(Err(back)) => {
             let before = back.saturating_sub(FROM);
             Said::of(false, put == before && count(set, FROM, back, me) == before)
         }
-        Came::Shared(Ok(())) => Said::of(put == 20, false),
         Came::Shared(Err(fault)) => Said::of(false, fault == ParExtendFault::NoMemory && put < 20),
         Came::Other(said) => said,
     }

@@ -1,6 +1,6 @@
 //! Plain shards, and a value that owns memory.
 
-use crate::rows::{FROM, SHARDS, TO, pairs};
+use crate::rows::{FROM, MIDDLE, SHARDS, TO, pairs};
 use crate::turns::{Case, Heap, Line, Said, Seen, made};
 use dashmap_guard::SharedValue;
 use dashmap_plain::ExtendShards;
@@ -10,27 +10,20 @@ type Small<'h> = Shard<u64, u64, &'h Heap>;
 
 type Plain<'h> = Shards<u64, u64, SpreadState, &'h Heap>;
 
-/// A call on a shard with the keys 0, 1, .. below a number, each under itself as its hash and with itself.
+/// A call on a shard with the keys 0, 1, .. below a number, each under itself as its hash and with itself; or on two plain
+/// shards; or a clone of a value that owns memory.
 #[derive(Clone, Copy)]
-pub enum OnShard {
+pub enum Call {
     Insert,
     Reserve,
     Shrink,
-}
-
-/// A call on two plain shards.
-#[derive(Clone, Copy)]
-pub enum OnShards {
     New,
-    Insert,
-    Reserve,
-    /// Of the keys from 10 to below 30, each with itself.
-    Extend,
+    InsertPlain,
+    ReservePlain,
+    /// By the keys from 10 to below 30, each with itself.
+    ExtendPlain,
+    CloneValue,
 }
-
-/// A clone of a value that owns memory.
-#[derive(Clone, Copy)]
-pub struct OfValue;
 
 /// Puts in the keys below a number, and others that are taken out again.
 fn fill(shard: &mut Small<'_>, keys: u64, gone: u64) -> Option<()> {
@@ -57,42 +50,33 @@ fn keys_of(shard: &Small<'_>) -> u64 {
     count
 }
 
-/// Puts in a new key.
-fn insert(shard: &mut Small<'_>) -> Said {
-    let said = shard.insert(28, 28, 28);
-    Said::of(matches!(said, Ok((_, None))), said == Err((28, 28)))
-}
-
-fn make_call(shard: &mut Small<'_>, call: OnShard) -> Said {
+fn make_call(shard: &mut Small<'_>, call: Call) -> Said {
     match call {
-        OnShard::Insert => insert(shard),
-        OnShard::Reserve => made(shard.reserve(100), NoMemory),
-        OnShard::Shrink => made(shard.shrink(), NoMemory),
+        Call::Insert => {
+            let said = shard.insert(28, 28, 28);
+            Said::of(matches!(said, Ok((_, None))), said == Err((28, 28)))
+        }
+        Call::Reserve => made(shard.reserve(100), NoMemory),
+        _ => made(shard.shrink(), NoMemory),
     }
 }
 
-/// Makes the call on an empty shard, behind the insertions that it needs.
-fn ask(heap: &Heap, shard: &mut Small<'_>, call: OnShard) -> Option<Seen> {
+/// Makes a call on a shard, behind the insertions that it needs.
+fn ask(heap: &Heap, call: Call) -> Option<Seen> {
+    let mut shard = Shard::new(heap);
     let (keys, gone) = match call {
-        OnShard::Insert => (28, 0),
-        OnShard::Reserve => (2, 0),
-        OnShard::Shrink => (2, 38),
+        Call::Insert => (28, 0),
+        Call::Reserve => (2, 0),
+        _ => (2, 38),
     };
-    fill(shard, keys, gone)?;
+    fill(&mut shard, keys, gone)?;
     let room = shard.capacity();
     let before = heap.asked();
-    let said = make_call(shard, call);
-    let is_put = matches!(call, OnShard::Insert) && said == Said::Done;
-    let has_all = keys_of(shard) == keys.saturating_add(u64::from(is_put));
+    let said = make_call(&mut shard, call);
+    let is_put = matches!(call, Call::Insert) && said == Said::Done;
+    let has_all = keys_of(&shard) == keys.saturating_add(u64::from(is_put));
     let has_room = said == Said::Done || shard.capacity() == room;
     said.seen(heap, before, has_all && has_room)
-}
-
-impl<R: Drop> Case<R> for OnShard {
-    fn run(self, _rt: R, heap: &Heap) -> Option<Seen> {
-        let mut shard = Shard::new(heap);
-        ask(heap, &mut shard, self)
-    }
 }
 
 /// Whether the keys from 10 to below one are there, and none behind it.
@@ -124,37 +108,42 @@ fn extend(shards: &mut Plain<'_>, pairs: Vec<(u64, u64)>) -> Said {
     Said::of(is_right && said.is_ok(), is_right && said.is_err())
 }
 
-impl<R: Drop> Case<R> for OnShards {
-    fn run(self, _rt: R, heap: &Heap) -> Option<Seen> {
-        let before = heap.asked();
-        let shards: Result<Plain<'_>, MapFault> = Shards::new(heap, SHARDS, SpreadState);
-        if let OnShards::New = self {
-            return made(shards, MapFault::NoMemory).seen(heap, before, true);
-        }
-        let mut shards = shards.ok()?;
-        let before = heap.asked();
-        let said = match self {
-            OnShards::Insert => insert_first(&mut shards),
-            OnShards::Reserve if 1 < shards.count() => made(shards.reserve(1), NoMemory),
-            OnShards::New | OnShards::Reserve => Said::Other,
-            OnShards::Extend => extend(&mut shards, pairs(*heap.inner())?),
-        };
-        said.seen(heap, before, true)
-    }
+/// Makes a call on plain shards.
+fn ask_plain(heap: &Heap, call: Call) -> Option<Seen> {
+    let mut shards: Plain<'_> = Shards::new(heap, SHARDS, SpreadState).ok()?;
+    let before = heap.asked();
+    let said = match call {
+        Call::InsertPlain => insert_first(&mut shards),
+        Call::ExtendPlain => extend(&mut shards, pairs(*heap.inner())?),
+        _ if 1 < shards.count() => made(shards.reserve(1), NoMemory),
+        _ => Said::Other,
+    };
+    said.seen(heap, before, true)
 }
 
-fn cloned(value: &SharedValue<Box<u64, &Heap>>) -> Said {
-    match value.clone() {
+/// Clones a box.
+fn clone_value(heap: &Heap) -> Option<Seen> {
+    let value = SharedValue::new(Box::new(heap, 5u64).ok()?);
+    let before = heap.asked();
+    let said = match value.clone() {
         Ok(copy) => Said::of(**copy.get() == 5, false),
         Err(_) => Said::Refused,
-    }
+    };
+    said.seen(heap, before, **value.get() == 5)
 }
 
-impl<R: Drop> Case<R> for OfValue {
+impl<R: Drop> Case<R> for Call {
     fn run(self, _rt: R, heap: &Heap) -> Option<Seen> {
-        let value = SharedValue::new(Box::new(heap, 5u64).ok()?);
         let before = heap.asked();
-        cloned(&value).seen(heap, before, **value.get() == 5)
+        match self {
+            Call::Insert | Call::Reserve | Call::Shrink => ask(heap, self),
+            Call::InsertPlain | Call::ReservePlain | Call::ExtendPlain => ask_plain(heap, self),
+            Call::CloneValue => clone_value(heap),
+            Call::New => {
+                let shards: Result<Plain<'_>, MapFault> = Shards::new(heap, SHARDS, SpreadState);
+                made(shards, MapFault::NoMemory).seen(heap, before, true)
+            }
+        }
     }
 }
 
@@ -162,19 +151,17 @@ const EACH: &str = "each pair; the room";
 
 const PAIR: &str = "the pair comes back; each other pair; the room";
 
-const MIDDLE: &str = "the pair comes back; those before it; none behind it";
-
-pub const ON_SHARD: &[Line<OnShard>] = &[
-    ("insert, into a full shard", OnShard::Insert, PAIR),
-    ("reserve", OnShard::Reserve, EACH),
-    ("shrink", OnShard::Shrink, EACH),
+pub const LINES: &[Line<Call>] = &[
+    ("Shard::insert, into a full shard", Call::Insert, PAIR),
+    ("Shard::reserve", Call::Reserve, EACH),
+    ("Shard::shrink", Call::Shrink, EACH),
+    ("Shards::new", Call::New, "nothing is made"),
+    ("Shards::insert", Call::InsertPlain, PAIR),
+    ("Shards::reserve", Call::ReservePlain, EACH),
+    ("Shards::extend, 20 pairs", Call::ExtendPlain, MIDDLE),
+    (
+        "SharedValue::clone, of a box",
+        Call::CloneValue,
+        "the value",
+    ),
 ];
-
-pub const ON_SHARDS: &[Line<OnShards>] = &[
-    ("new", OnShards::New, "nothing is made"),
-    ("insert", OnShards::Insert, PAIR),
-    ("reserve", OnShards::Reserve, EACH),
-    ("extend, 20 pairs", OnShards::Extend, MIDDLE),
-];
-
-pub const OF_VALUES: &[Line<OfValue>] = &[("clone, of a box", OfValue, "the value")];

@@ -7,7 +7,7 @@ use std::io;
 /// A line of the table: the call by its name, the case, and what stands behind a refused one.
 pub type Line<C> = (&'static str, C, &'static str);
 
-fn print_line<R: Print + Drop>(
+pub fn print_line<R: Print + Drop>(
     rt: R,
     of: &str,
     call: &str,
@@ -20,19 +20,19 @@ fn print_line<R: Print + Drop>(
     }
 }
 
-/// Prints a line for each case of a type or a module, and answers whether all stood.
+/// Prints a line for each case of a type or a module, and answers whether all stood and was written.
 pub fn print_lines<R: AllocGlobal + Print + Copy + Drop, C: Case<R>>(
     rt: R,
     of: &str,
     lines: &[Line<C>],
-) -> io::Result<bool> {
+) -> bool {
     let mut all = true;
     for &(call, case, stands) in lines {
         let said = make_in_turn(rt, rt.alloc(), case);
-        all &= said.is_ok();
-        print_line(rt, of, call, said, stands)?;
+        let is_right = said.is_ok();
+        all &= print_line(rt, of, call, said, stands).is_ok() && is_right;
     }
-    Ok(all)
+    all
 }
 
 /// What came of a call whose answer isn't looked at: it is done, or this is its refusal.

@@ -64,17 +64,14 @@ fn look(heap: &Heap, world: &mut Small<'_>, call: Call) -> Option<Seen> {
 
 impl<R: Drop> Case<R> for Call {
     fn run(self, _rt: R, heap: &Heap) -> Option<Seen> {
-        let kinds = match self {
-            Call::New(kinds) => kinds,
-            _ => EACH,
-        };
-        let kinds = Vec::from_slice(heap, kinds).ok()?;
-        let before = heap.asked();
-        let world = World::new(heap, 3, kinds);
-        if let Call::New(_) = self {
+        if let Call::New(kinds) = self {
+            let kinds = Vec::from_slice(heap, kinds).ok()?;
+            let before = heap.asked();
+            let world = World::new(heap, 3, kinds);
             return made(world, SizeFault::NoMemory).seen(heap, before, true);
         }
-        look(heap, &mut world.ok()?, self)
+        let kinds = Vec::from_slice(heap, EACH).ok()?;
+        look(heap, &mut World::new(heap, 3, kinds).ok()?, self)
     }
 }
 
@@ -88,29 +85,21 @@ const EACH: Kinds = &[
     LockKind::Once,
 ];
 
-const MUTEXES: Call = Call::New(&[LockKind::Mutex, LockKind::Mutex]);
+const FAIR: Kinds = &[LockKind::FairMutex; 2];
 
-const FAIR_MUTEXES: Call = Call::New(&[LockKind::FairMutex, LockKind::FairMutex]);
-
-const LOCKS: Call = Call::New(&[LockKind::Rw, LockKind::Rw]);
-
-const RECURSIVE: Call = Call::New(&[LockKind::RwRecursive, LockKind::RwRecursive]);
-
-const CONDVARS: Call = Call::New(&[LockKind::Condvar, LockKind::Condvar]);
-
-const ONCES: Call = Call::New(&[LockKind::Once, LockKind::Once]);
+const LOCKS: Kinds = &[LockKind::Rw; 2];
 
 const NO: &str = "nothing is made";
 
 const KEPT: &str = "who owns, and who waits";
 
 pub const LINES: &[Line<Call>] = &[
-    ("new, mutexes", MUTEXES, NO),
-    ("new, fair mutexes", FAIR_MUTEXES, NO),
-    ("new, reader-writer locks", LOCKS, NO),
-    ("new, recursive", RECURSIVE, NO),
-    ("new, condvars", CONDVARS, NO),
-    ("new, onces", ONCES, NO),
+    ("new, mutexes", Call::New(&[LockKind::Mutex; 2]), NO),
+    ("new, fair mutexes", Call::New(FAIR), NO),
+    ("new, reader-writer locks", Call::New(LOCKS), NO),
+    ("new, recursive", Call::New(&[LockKind::RwRecursive; 2]), NO),
+    ("new, condvars", Call::New(&[LockKind::Condvar; 2]), NO),
+    ("new, onces", Call::New(&[LockKind::Once; 2]), NO),
     ("new, a lock of each kind", Call::New(EACH), NO),
     ("run", Call::Run, "takes none"),
     ("owners", Call::Owners, KEPT),
