@@ -26,12 +26,11 @@ use std::sync::Wait;
 use std::thread::Threads;
 use turns::print_lines;
 
-/// Prints the head of the table.
 fn print_head<R: Print + Drop>(rt: R) -> bool {
     println!(rt; "| Call | Growths refused | What stood |\n|---|---|---|").is_ok()
 }
 
-/// Prints the calls of locks, lots and worlds, and answers whether all stood.
+/// Prints the calls of locks, lots and worlds of locks, and answers whether all stood.
 fn print_locks<R: AllocGlobal + Print + Wait + Clock + Copy + Drop>(rt: R) -> bool {
     let mut all = print_head(rt);
     all &= print_lines(rt, "Mutex::", arcs::OF_MUTEX);

@@ -10,8 +10,8 @@ type Small<'h> = Shard<u64, u64, &'h Heap>;
 
 type Plain<'h> = Shards<u64, u64, SpreadState, &'h Heap>;
 
-/// A call on a shard with the keys 0, 1, .. below a number, each under itself as its hash and with itself; or on two plain
-/// shards; or a clone of a value that owns memory.
+/// A call on a shard with the keys 0, 1, .. below a number, each under itself as its hash and with itself, or on two
+/// plain shards; or a clone of a value that owns memory.
 #[derive(Clone, Copy)]
 pub enum Call {
     Insert,
@@ -108,7 +108,6 @@ fn extend(shards: &mut Plain<'_>, pairs: Vec<(u64, u64)>) -> Said {
     Said::of(is_right && said.is_ok(), is_right && said.is_err())
 }
 
-/// Makes a call on plain shards.
 fn ask_plain(heap: &Heap, call: Call) -> Option<Seen> {
     let mut shards: Plain<'_> = Shards::new(heap, SHARDS, SpreadState).ok()?;
     let before = heap.asked();
@@ -121,7 +120,6 @@ fn ask_plain(heap: &Heap, call: Call) -> Option<Seen> {
     said.seen(heap, before, true)
 }
 
-/// Clones a box.
 fn clone_value(heap: &Heap) -> Option<Seen> {
     let value = SharedValue::new(Box::new(heap, 5u64).ok()?);
     let before = heap.asked();
