@@ -1,6 +1,7 @@
 //! Keys and values that are texts.
 
 use dashmap_iter::LendingWalks;
+use dashmap_iter::multiple_mut::RefMutMulti;
 use dashmap_iter::shard_guards::Looks;
 use dashmap_iter::walks::Walks;
 use dashmap_map::DashMap;
@@ -71,20 +72,29 @@ fn items<R: Wait + Drop>(map: &Named<R>) -> u64 {
     count
 }
 
-/// Counts up the pairs that a writing walk lends, and answers the last one as it was, if each lends what was written.
+/// A pair that a writing walk lends.
+type Lent<'w, 'm, 'd, R> = RefMutMulti<'w, 'm, 'd, &'static str, u64, PackedLock<R>>;
+
+/// Counts a pair up, and answers it as it was, if what was written is lent next.
+fn counted<R: Wait + Drop>(pair: Lent<'_, '_, '_, R>) -> Option<(&'static str, u64)> {
+    let mut pair = pair;
+    let was = *pair.value();
+    *pair.value_mut() = was.wrapping_add(1);
+    if *pair == was.wrapping_add(1) {
+        Some((*pair.key(), was))
+    } else {
+        None
+    }
+}
+
+/// Counts up the pairs that a writing walk lends, and answers the last one as it was.
 fn counted_up<R: Wait + Drop>(map: &Named<R>) -> Option<(&'static str, u64)> {
     let mut me = 1;
     let mut walk = map._iter_mut(&mut me);
     let mut last = None;
     for _ in 0..3 {
-        if let Some(mut pair) = walk.next_mut() {
-            let was = *pair.value();
-            *pair.value_mut() = was.wrapping_add(1);
-            last = if *pair == was.wrapping_add(1) {
-                Some((*pair.key(), was))
-            } else {
-                None
-            };
+        if let Some(pair) = walk.next_mut() {
+            last = counted(pair);
         }
     }
     last

@@ -1,7 +1,7 @@
 -- How a nested hold begins and ends.
 use Rattle.std.specs.Prelude.{◌⊎◌, Option, None, Some, IfSome, MatchOption}
 
--- That the party was the owner at one look. This and the next four are each opened by nothing but the proof of the one
+-- That the party was the owner at one look. This and the next five are each opened by nothing but the proof of the one
 -- function that does it, so that who says so has to ask that function.
 unfoldable pub IsOwner : {P : Type 0} → P → Type 0
 IsOwner party = Unit {0}
@@ -9,6 +9,10 @@ IsOwner party = Unit {0}
 -- That one was added to the count of the party's holds, which was the owner.
 unfoldable pub WasNested : {P : Type 0} → P → Type 0
 WasNested party = Unit {0}
+
+-- That this count was at its limit at one look.
+unfoldable pub WasFull : {P : Type 0} → P → Type 0
+WasFull party = Unit {0}
 
 -- That the raw token was put into the slot, for a first hold.
 unfoldable pub WasPutIn : {T : Type 0} → T → Type 0

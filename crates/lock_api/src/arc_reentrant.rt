@@ -2,7 +2,9 @@
 ghost use Rattle.std.specs.Prelude.{◌≡◌, IfSome, IfOk, OnErr};
 ghost use Rattle.std.specs.Arc.{arc_value};
 ghost use Rattle.std.specs.Fn.{FnOnceReturnsAt};
-ghost use Rattle.lock_api.specs.Leaves.{BumpedAlone, EndedBy, Entered, EnteredIf};
+ghost use Rattle.std.specs.Result.{IfErr};
+ghost use Rattle.lock_api.specs.Leaves.{BumpedAlone, EndedBy, Entered, EnteredIf, WasFull};
+ghost use Rattle.lock_api.specs.declared.arc_fault.ReentrantArcFault.TheVariants.{ReadersFull};
 
 use crate::arc_fault::ReentrantArcFault;
 use crate::reentrant::ReentrantMutex;
@@ -70,6 +72,7 @@ where
         ensures lock { IfOk result (λ guard. guard.hold.lock ≡ arc_value this.now) }
         ensures call { IfOk result (λ _. Entered party.old R.locked) }
         ensures refused { OnErr result (party.new ≡ party.old) }
+        ensures full { IfErr result (λ fault. fault ≡ ReadersFull → WasFull party.old) }
     {
         let lock = Arc::try_clone(this)?;
         let token = lock.raw.lock(party)?;
@@ -90,6 +93,7 @@ where
     ) -> Result<Option<ArcReentrantMutexGuard<R, G, T, A>>, ReentrantArcFault>
         ensures lock { IfOk result (λ some. IfSome some (λ guard. guard.hold.lock ≡ arc_value this.now)) }
         ensures call { IfOk result (EnteredIf party.now (R.tried (arc_value this.now).raw)) }
+        ensures full { IfErr result (λ fault. fault ≡ ReadersFull → WasFull party.now) }
     {
         let lock = Arc::try_clone(this)?;
         match lock.raw.try_lock(party)? {
@@ -117,6 +121,7 @@ where
         ensures lock { IfOk result (λ some. IfSome some (λ guard. guard.hold.lock ≡ arc_value this.now)) }
         ensures call { IfOk result (EnteredIf party.old R.locked_in_time) }
         ensures refused { OnErr result (party.new ≡ party.old) }
+        ensures full { IfErr result (λ fault. fault ≡ ReadersFull → WasFull party.old) }
     {
         let lock = Arc::try_clone(this)?;
         match lock.raw.try_lock_for(timeout, clock, party)? {
@@ -144,6 +149,7 @@ where
         ensures lock { IfOk result (λ some. IfSome some (λ guard. guard.hold.lock ≡ arc_value this.now)) }
         ensures call { IfOk result (EnteredIf party.old R.locked_in_time) }
         ensures refused { OnErr result (party.new ≡ party.old) }
+        ensures full { IfErr result (λ fault. fault ≡ ReadersFull → WasFull party.old) }
     {
         let lock = Arc::try_clone(this)?;
         match lock.raw.try_lock_until(deadline, clock, party)? {

@@ -2,7 +2,7 @@
 ghost use Rattle.std.specs.Prelude.{◌≡◌, ◌-◌, ◌^◌, ◌<◌, IfSome, IfOk, OnErr, Some, true};
 ghost use Rattle.lock_api_raw.specs.Limits.{kept_limit};
 ghost use Rattle.lock_api.specs.Leaves.{BumpedAlone, EndedBy, Entered, EnteredIf, IsNested};
-ghost use Rattle.lock_api.specs.Leaves.{IsOwner, Left, WasNested, WasPutIn, WasTakenOut};
+ghost use Rattle.lock_api.specs.Leaves.{IsOwner, Left, WasFull, WasNested, WasPutIn, WasTakenOut};
 
 use counted_slot::{Claim, Counted, FREE, Fits, TAKEN};
 use lock_api_raw::{
@@ -151,6 +151,7 @@ where
         requires { IsOwner _owner.now }
         ensures token { IfOk result (λ token. token ≡ self.now.number) }
         ensures nested { IfOk result (λ _. WasNested _owner.now) }
+        ensures full { OnErr result (WasFull _owner.now) }
     {
         let depth = self.depth.load(Ordering::SeqCst);
         if depth < self.limit {
@@ -285,6 +286,7 @@ where
         ensures lock { IfOk result (λ token. token ≡ self.now.number) }
         ensures call { IfOk result (λ _. Entered party.old R.locked) }
         ensures refused { OnErr result (party.new ≡ party.old) }
+        ensures full { OnErr result (WasFull party.old) }
     {
         if self.is_owned_by_current_thread(party) {
             return self.nest(party);
@@ -301,6 +303,7 @@ where
     pub fn try_lock(&self, party: &R::Party) -> Result<Option<GuardNoSend>, ReadersFull>
         ensures lock { IfOk result (λ some. IfSome some (λ token. token ≡ self.now.number)) }
         ensures call { IfOk result (EnteredIf party.now (R.tried self.now.raw)) }
+        ensures full { OnErr result (WasFull party.now) }
     {
         if self.is_owned_by_current_thread(party) {
             return Ok(Some(self.nest(party)?));
@@ -388,6 +391,7 @@ where
         ensures lock { IfOk result (λ some. IfSome some (λ token. token ≡ self.now.number)) }
         ensures call { IfOk result (EnteredIf party.old R.locked_in_time) }
         ensures refused { OnErr result (party.new ≡ party.old) }
+        ensures full { OnErr result (WasFull party.old) }
     {
         if self.is_owned_by_current_thread(party) {
             return Ok(Some(self.nest(party)?));
@@ -415,6 +419,7 @@ where
         ensures lock { IfOk result (λ some. IfSome some (λ token. token ≡ self.now.number)) }
         ensures call { IfOk result (EnteredIf party.old R.locked_in_time) }
         ensures refused { OnErr result (party.new ≡ party.old) }
+        ensures full { OnErr result (WasFull party.old) }
     {
         if self.is_owned_by_current_thread(party) {
             return Ok(Some(self.nest(party)?));

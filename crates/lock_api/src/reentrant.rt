@@ -2,7 +2,7 @@
 ghost use Rattle.std.specs.Prelude.{◌≡◌, ◌-◌, ◌^◌, ◌⊎◌, IfNone, IfSome, IfOk, MatchOption, OnErr, None, Some};
 ghost use Rattle.lock_api_raw.specs.Limits.{kept_limit};
 ghost use Rattle.lock_api_rw.specs.Holds.{IsValueTaken};
-ghost use Rattle.lock_api.specs.Leaves.{BumpedAlone, EndedBy, Entered, EnteredIf};
+ghost use Rattle.lock_api.specs.Leaves.{BumpedAlone, EndedBy, Entered, EnteredIf, WasFull};
 
 use crate::raw_reentrant::RawReentrantMutex;
 use lock_api_guards::{Access, FairHold, Guard, Hold, Mapped, ReentrantHold};
@@ -211,6 +211,7 @@ where
         ensures lock { IfOk result (λ guard. guard.held.0.lock ≡ self.now) }
         ensures call { IfOk result (λ _. Entered party.old R.locked) }
         ensures refused { OnErr result (party.new ≡ party.old) }
+        ensures full { OnErr result (WasFull party.old) }
     {
         let token = self.raw.lock(party)?;
         Ok(self.guard(token))
@@ -255,6 +256,7 @@ where
         ensures lock { IfOk result (λ some. IfSome some (λ guard. guard.held.0.lock ≡ self.now)) }
         ensures call { IfOk result (λ some. MatchOption some (IsValueTaken self.now ⊎ R.tried self.now.raw None)
             (λ _. Entered party.now (λ token. R.tried self.now.raw (Some token)))) }
+        ensures full { OnErr result (WasFull party.now) }
     {
         let Some(inner) = self.value_at_once() else {
             return Ok(None);
@@ -282,6 +284,7 @@ where
         ensures lock { IfOk result (λ some. IfSome some (λ guard. guard.held.0.lock ≡ self.now)) }
         ensures call { IfOk result (EnteredIf party.old R.locked_in_time) }
         ensures refused { OnErr result (party.new ≡ party.old) }
+        ensures full { OnErr result (WasFull party.old) }
     {
         match self.raw.try_lock_for(timeout, clock, party)? {
             Some(token) => Ok(Some(self.guard(token))),
@@ -306,6 +309,7 @@ where
         ensures lock { IfOk result (λ some. IfSome some (λ guard. guard.held.0.lock ≡ self.now)) }
         ensures call { IfOk result (EnteredIf party.old R.locked_in_time) }
         ensures refused { OnErr result (party.new ≡ party.old) }
+        ensures full { OnErr result (WasFull party.old) }
     {
         match self.raw.try_lock_until(deadline, clock, party)? {
             Some(token) => Ok(Some(self.guard(token))),

@@ -2,7 +2,7 @@
 
 use crate::command::Options;
 use crate::files::{limit_name, schedule_text, searched, text_of};
-use mapworld_explorer::{Broken, Failure, Search, broken_claim, failure_of, is_claim};
+use mapworld_explorer::{Broken, Failure, Outcome, Search, broken_claim, failure_of, is_claim};
 use mapworld_text::{Case, Line, read};
 use std::alloc::{AllocError, Global};
 use std::io;
@@ -79,6 +79,22 @@ pub fn tell_failure<R: Print + AllocGlobal>(
     println!(rt; "{file}:{number}: in `{name}`, {way}: expected `{want}`, found `{found}`")
 }
 
+/// An outcome of which a claim isn't so, and a schedule that leads to it.
+fn told_outcome(
+    alloc: Global,
+    case: &Case<'_>,
+    search: &Search<'_, '_>,
+    outcome: &Outcome,
+) -> Result<String, AllocError> {
+    let mut text = String::new(alloc);
+    text.push_str("not so of `")?;
+    outcome.write(case, &mut text)?;
+    text.push_str("`, to which leads\n  ")?;
+    let schedule = search.schedule(outcome.state)?;
+    text.push_str(schedule_text(alloc, case, &schedule)?.as_str())?;
+    Ok(text)
+}
+
 /// Tells which claim of a case isn't so, and by which schedule.
 fn tell_broken<R: Print + AllocGlobal>(
     rt: &R,
@@ -95,12 +111,8 @@ fn tell_broken<R: Print + AllocGlobal>(
     };
     match outcome {
         Some(outcome) => {
-            let mut text = String::new(rt.alloc());
-            outcome.write(case, &mut text)?;
-            let schedule = schedule_text(rt.alloc(), case, &search.schedule(outcome.state)?)?;
-            let text = text.as_str();
-            println!(rt; "{file}:{number}: in `{name}`: not so of `{text}`, to which leads")?;
-            println!(rt; "  {}", schedule.as_str())
+            let text = told_outcome(rt.alloc(), case, search, outcome)?;
+            println!(rt; "{file}:{number}: in `{name}`: {}", text.as_str())
         }
         None => {
             let outcomes = search.outcomes.len();

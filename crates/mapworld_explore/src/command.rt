@@ -182,19 +182,31 @@ fn timing<'a>(alloc: Global) -> Result<Command<'a>, AllocError> {
         ))
 }
 
-/// The whole of it.
-pub fn command_line<'a>(alloc: Global) -> Result<Command<'a>, AllocError> {
-    Command::new(alloc, "mapworld_explore")
-        .about("Every schedule of small programs of map calls")
-        .subcommand_required(true)
-        .subcommand(running(alloc)?)?
-        .subcommand(exploring(alloc)?)?
+/// What is told of outcomes.
+fn tellings<'a>(alloc: Global, command: Command<'a>) -> Result<Command<'a>, AllocError> {
+    command
         .subcommand(telling(
             alloc,
             "why",
             "Tell a shortest schedule to an outcome, step by step",
         )?)?
-        .subcommand(telling(alloc, "picture", "Draw that schedule, as a page of HTML")?)?
+        .subcommand(telling(alloc, "picture", "Draw that schedule, as a page of HTML")?)
+}
+
+/// What is done with all cases of files.
+fn runs<'a>(alloc: Global, command: Command<'a>) -> Result<Command<'a>, AllocError> {
+    command
+        .subcommand(running(alloc)?)?
+        .subcommand(exploring(alloc)?)
+}
+
+/// The whole of it.
+pub fn command_line<'a>(alloc: Global) -> Result<Command<'a>, AllocError> {
+    let command = Command::new(alloc, "mapworld_explore")
+        .about("Every schedule of small programs of map calls")
+        .subcommand_required(true);
+    let command = tellings(alloc, runs(alloc, command)?)?;
+    command
         .subcommand(checking(alloc)?)?
         .subcommand(timing(alloc)?)
 }

@@ -50,6 +50,19 @@ fn waits_of(alloc: Global, search: &Search<'_, '_>) -> Result<Value, AllocError>
     Ok(Value::from(waits))
 }
 
+/// What each outcome is.
+fn outcomes_of(
+    alloc: Global,
+    case: &Case<'_>,
+    search: &Search<'_, '_>,
+) -> Result<Value, ExploreFault> {
+    let mut outcomes: Vec<Value> = Vec::new(alloc);
+    for outcome in &search.outcomes {
+        outcomes.push(outcome_of(alloc, case, search, outcome)?)?;
+    }
+    Ok(Value::from(outcomes))
+}
+
 /// What was found of a case, as a line of JSON.
 pub fn json_of(
     alloc: Global,
@@ -57,16 +70,12 @@ pub fn json_of(
     case: &Case<'_>,
     search: &Search<'_, '_>,
 ) -> Result<String, ExploreFault> {
-    let mut outcomes: Vec<Value> = Vec::new(alloc);
-    for outcome in &search.outcomes {
-        outcomes.push(outcome_of(alloc, case, search, outcome)?)?;
-    }
-    let outcomes = Value::from(outcomes);
     let name = case.name;
     let states = search.states();
     let ends = search.ends;
     let is_whole = search.limit.is_none();
     let waits = waits_of(alloc, search)?;
+    let outcomes = outcomes_of(alloc, case, search)?;
     let found = json!(in alloc; {
         "file": file, "case": name, "states": states, "ends": ends, "whole": is_whole, "sleeps": waits,
         "outcomes": outcomes

@@ -10,6 +10,7 @@ mod command;
 mod explore;
 mod files;
 mod json;
+mod late;
 mod load;
 mod picture;
 mod run;

@@ -64,28 +64,39 @@ fn tell_contents<R: Print + AllocGlobal>(rt: &R, world: &World) -> io::Result<()
     println!(rt; "")
 }
 
+/// Tells what a case came to by its own schedule; says whether its own lines are so.
+fn tell_played<R: Print + AllocGlobal>(
+    rt: &R,
+    file: &str,
+    case: &Case<'_>,
+    title: &str,
+    played: &Played,
+) -> io::Result<bool> {
+    let world = &played.world;
+    println!(rt; "{title}: {} steps", world.steps())?;
+    tell_replies(rt, case, world)?;
+    tell_blocks(rt, case, world)?;
+    tell_locks(rt, case, world)?;
+    tell_contents(rt, world)?;
+    match &played.failure {
+        Some(failure) => {
+            tell_failure(rt, file, case, failure)?;
+            Ok(false)
+        }
+        None => Ok(true),
+    }
+}
+
 /// Runs a case; says whether its own lines are so.
 fn run_case<R: Print + AllocGlobal>(rt: &R, file: &str, case: &Case<'_>) -> io::Result<bool> {
     let mut title = String::new(rt.alloc());
     write_title(file, case, &mut title)?;
-    let Played { world, failure, .. } = match play_once(rt.alloc(), case) {
-        Ok(played) => played,
+    match play_once(rt.alloc(), case) {
+        Ok(played) => tell_played(rt, file, case, title.as_str(), &played),
         Err(fault) => {
             println!(rt; "{}: {fault}", title.as_str())?;
-            return Ok(false);
-        }
-    };
-    println!(rt; "{}: {} steps", title.as_str(), world.steps())?;
-    tell_replies(rt, case, &world)?;
-    tell_blocks(rt, case, &world)?;
-    tell_locks(rt, case, &world)?;
-    tell_contents(rt, &world)?;
-    match failure {
-        Some(failure) => {
-            tell_failure(rt, file, case, &failure)?;
             Ok(false)
         }
-        None => Ok(true),
     }
 }
 

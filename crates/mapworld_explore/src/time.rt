@@ -1,24 +1,29 @@
 //! What a step of a world costs.
 
 use crate::command::Options;
-use crate::load::{Fault, run_through, world_of};
+use crate::load::{Fault, World, run_through, world_of};
 use std::alloc::Global;
 use std::io;
 use std::time::{Clock, Instant};
 
 /// Runs a world through, and tells what a step of it took.
-fn timed<R: Clock>(rt: &R, alloc: Global, options: &Options<'_, '_>) -> Result<String, Fault> {
-    let threads = options.threads();
-    let mut world = world_of(alloc, threads, options.calls(), options.keys())?;
+fn told<R: Clock>(rt: &R, alloc: Global, world: &mut World<Global>) -> Result<String, Fault> {
     let start = Instant::now(rt).map_err(|_| Fault)?;
-    run_through(&mut world);
+    run_through(world);
     let took = start.elapsed(rt).map_err(|_| Fault)?;
     let each = took.as_nanos() / u128::from(world.steps().max(1));
     Ok(format!(in alloc;
-        "{} steps of {threads} threads, {} replies, {each} ns a step",
+        "{} steps of {} threads, {} replies, {each} ns a step",
         world.steps(),
+        world.threads(),
         world.replies().len()
     )?)
+}
+
+/// Times the world that the command line asks for.
+fn timed<R: Clock>(rt: &R, alloc: Global, options: &Options<'_, '_>) -> Result<String, Fault> {
+    let mut world = world_of(alloc, options.threads(), options.calls(), options.keys())?;
+    told(rt, alloc, &mut world)
 }
 
 /// Prints what a step takes. Answers whether the world could be made.

@@ -2,11 +2,11 @@
 
 use crate::command::Options;
 use crate::files::{meant, searched, text_of};
+use crate::late::with_late_starts;
 use crate::picture::page;
 use mapworld::Step;
 use mapworld_explorer::{
     Course, ExploreFault, Outcome, Search, course_of, is_so, outcome_behind, play_once,
-    with_late_starts,
 };
 use mapworld_text::{Case, Expected, read, terms};
 use std::alloc::Global;

@@ -239,46 +239,11 @@ impl Course {
 }
 
 /// Whether the thread's next step is the start of a call, which nobody else sees.
-fn starts(world: &World, thread: usize) -> bool {
+pub fn starts(world: &World, thread: usize) -> bool {
     match world.place(thread) {
         Some(stand) => kind_of(stand) == 0,
         None => false,
     }
-}
-
-/// The same schedule with each call started right before the next step of its thread, which comes to the same: so that
-/// a call begins where its thread goes on.
-pub fn with_late_starts(
-    alloc: Global,
-    case: &Case<'_>,
-    schedule: &[Step],
-) -> Result<Vec<Step>, ExploreFault> {
-    let mut world = world_behind(alloc, case, &[])?;
-    let mut late = Vec::with_capacity(alloc, schedule.len())?;
-    let mut held: Vec<bool> = Vec::new(alloc);
-    for _ in 0..world.threads() {
-        held.push(false)?;
-    }
-    for step in schedule {
-        let thread = step.thread;
-        let is_held = held.get(thread).copied().unwrap_or(false);
-        let is_start = starts(&world, thread);
-        if is_held && !is_start {
-            late.push(Step {
-                thread,
-                fair: false,
-                deadline: false,
-            })?;
-        }
-        if !is_start {
-            late.push(*step)?;
-        }
-        if let Some(mark) = held.get_mut(thread) {
-            *mark = is_start;
-        }
-        world.run(&[*step])?;
-    }
-    Ok(late)
 }
 
 /// The course of a case by a schedule: each of its steps is told, in their order.

@@ -21,7 +21,7 @@ mod waits;
 mod worlds;
 
 pub use checked::{Broken, broken_claim, is_claim, is_so};
-pub use course::{Bar, Course, Held, Point, Sleep, Told, Waking, course_of, with_late_starts};
+pub use course::{Bar, Course, Held, Point, Sleep, Told, Waking, course_of, starts};
 pub use outcome::{Answering, Outcome};
 pub use play::{Failure, failure_of};
 pub use played::{Played, play_once};

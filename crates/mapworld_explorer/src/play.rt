@@ -1,9 +1,10 @@
 //! How a case is played: in each way that it may be, line by line.
 
+use crate::search::plain;
 use crate::seen::write_seen;
 use crate::traced::Traced;
 use crate::worlds::{calls_of, world_of};
-use mapworld::{Step, WorldNewFault};
+use mapworld::WorldNewFault;
 use mapworld_text::{Case, Line, Order, View};
 use std::alloc::{AllocError, Global};
 use std::fmt;
@@ -57,11 +58,7 @@ fn is_text(found: &str, want: &[&str]) -> bool {
 fn write_run(traced: &mut Traced, threads: &[usize], out: &mut String) -> Result<(), AllocError> {
     let mut steps = Vec::with_capacity(traced.alloc, threads.len())?;
     for thread in threads {
-        steps.push(Step {
-            thread: *thread,
-            fair: false,
-            deadline: false,
-        })?;
+        steps.push(plain(*thread))?;
     }
     let before = traced.world.steps();
     match traced.world.run(&steps) {

@@ -57,7 +57,7 @@ pub struct Search<'c, 'a> {
 }
 
 /// A step of a thread's own that isn't fair.
-fn plain(thread: usize) -> Step {
+pub(crate) fn plain(thread: usize) -> Step {
     Step {
         thread,
         fair: false,

@@ -82,35 +82,47 @@ fn write_pair(world: &World, key: u64, out: &mut String) -> Written {
     }
 }
 
-/// The pairs, each of which is to be found by its key, and to come once by a walk.
-fn write_pairs(traced: &Traced, out: &mut String) -> Written {
+/// The pairs that a walk meets, by their keys.
+fn pairs_of(traced: &Traced) -> Result<Vec<(u64, u64)>, AllocError> {
     let mut pairs: Vec<(u64, u64)> = Vec::new(traced.alloc);
     for (key, value) in traced.world.pairs() {
         pairs.push((*key, *value))?;
     }
-    let Ok(contents) = traced.world.contents() else {
-        return Err(AllocError);
-    };
-    if contents.len() != pairs.len() {
-        return write!(
-            out,
-            "{} pairs, and {} by a walk",
-            contents.len(),
-            pairs.len()
-        );
-    }
     pairs.sort_unstable();
-    for (key, value) in &pairs {
+    Ok(pairs)
+}
+
+/// How many pairs the contents have.
+fn count_of(traced: &Traced) -> Result<usize, AllocError> {
+    match traced.world.contents() {
+        Ok(contents) => Ok(contents.len()),
+        Err(_) => Err(AllocError),
+    }
+}
+
+/// Pairs, each of which is to be found by its key.
+fn write_each(traced: &Traced, pairs: &[(u64, u64)], out: &mut String) -> Written {
+    for (key, value) in pairs {
         write!(out, " {key}=")?;
         write_pair(&traced.world, *key, out)?;
         if traced.world.pair(key) != Some((key, value)) {
             out.push_str(" elsewhere")?;
         }
     }
-    if pairs.is_empty() {
+    Ok(())
+}
+
+/// The pairs, each of which is to be found by its key, and to come once by a walk.
+fn write_pairs(traced: &Traced, out: &mut String) -> Written {
+    let count = count_of(traced)?;
+    let pairs = pairs_of(traced)?;
+    let walked = pairs.len();
+    if walked != count {
+        write!(out, "{count} pairs, and {walked} by a walk")
+    } else if walked == 0 {
         out.push_str("none")
     } else {
-        Ok(())
+        write_each(traced, &pairs, out)
     }
 }
 

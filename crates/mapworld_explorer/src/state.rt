@@ -24,23 +24,27 @@ fn guard_kind(stand: &Stand) -> u8 {
     }
 }
 
-/// Where a thread stands in its program. What its call was asked is known by the call's number.
-fn write_stand(alloc: Global, stand: &Stand, out: &mut String) -> Written {
+/// What its call and its guard are, where they are, and how far.
+fn write_place(stand: &Stand, out: &mut String) -> Written {
+    let (next, kind, guard) = (stand.next, kind_of(stand), guard_kind(stand));
     write!(
         out,
-        "\n{} {} {} {} {} {} {} {} {} {} {}",
-        stand.next,
-        kind_of(stand),
-        guard_kind(stand),
-        stand.shard,
-        stand.slot,
-        stand.count,
-        stand.visits.len(),
-        stand.holds.len(),
-        u8::from(stand.closes),
-        u8::from(stand.started.is_some()),
-        u8::from(stand.block.is_some())
+        "\n{next} {kind} {guard} {} {}",
+        stand.shard, stand.slot
     )?;
+    let (visits, holds) = (stand.visits.len(), stand.holds.len());
+    let (closes, is_started) = (u8::from(stand.closes), u8::from(stand.started.is_some()));
+    write!(
+        out,
+        " {} {visits} {holds} {closes} {is_started}",
+        stand.count
+    )?;
+    write!(out, " {}", u8::from(stand.block.is_some()))
+}
+
+/// Where a thread stands in its program. What its call was asked is known by the call's number.
+fn write_stand(alloc: Global, stand: &Stand, out: &mut String) -> Written {
+    write_place(stand, out)?;
     for (key, value) in &stand.reads {
         write!(out, " {key}={value}")?;
     }

@@ -107,6 +107,22 @@ impl Before {
         )
     }
 
+    /// An exchange of a lock's word, which is now that.
+    fn write_exchange(&self, from: u64, to: u64, word: u64, out: &mut String) -> Written {
+        let shard = self.shard;
+        if self.word == from {
+            write!(
+                out,
+                "exchanges the word of shard {shard}: {from} becomes {to}"
+            )
+        } else {
+            write!(
+                out,
+                "fails to exchange the word of shard {shard}: it is {word}, not {from}"
+            )
+        }
+    }
+
     /// A step at a lock.
     fn write_act(&self, act: Act, world: &World, out: &mut String) -> Written {
         let shard = self.shard;
@@ -114,18 +130,7 @@ impl Before {
         let word = world.word(shard);
         match act {
             Act::Load => write!(out, "looks at the word of shard {shard}: {word}"),
-            Act::Exchange(from, to) if before == from => {
-                write!(
-                    out,
-                    "exchanges the word of shard {shard}: {from} becomes {to}"
-                )
-            }
-            Act::Exchange(from, _) => {
-                write!(
-                    out,
-                    "fails to exchange the word of shard {shard}: it is {word}, not {from}"
-                )
-            }
+            Act::Exchange(from, to) => self.write_exchange(from, to, word, out),
             Act::Add(_) | Act::FetchAnd(_) => {
                 write!(
                     out,
