@@ -17,13 +17,23 @@ type Accounts<'t, 'l, R> = Recorded<'t, 'l, u64, u64, RandomState, R>;
 type Teller = Caller<u64, u64>;
 
 /// Puts 1 on an account if it has what was seen. None where the record had no memory.
-fn pay<R: Wait>(accounts: &Accounts<'_, '_, R>, teller: &mut Teller, me: &mut ThreadData) -> Option<bool> {
+fn pay<R: Wait>(
+    accounts: &Accounts<'_, '_, R>,
+    teller: &mut Teller,
+    me: &mut ThreadData,
+) -> Option<bool> {
     let seen = accounts.get_copied(&7, teller, me).ok()?.unwrap_or(0);
-    accounts.replace_if(&7, seen, seen.wrapping_add(1), teller, me).ok()
+    accounts
+        .replace_if(&7, seen, seen.wrapping_add(1), teller, me)
+        .ok()
 }
 
 /// Pays a hundred times, each time until no other teller came between.
-fn pay_all<R: Wait>(accounts: &Accounts<'_, '_, R>, teller: &mut Teller, mut me: ThreadData) -> Option<u64> {
+fn pay_all<R: Wait>(
+    accounts: &Accounts<'_, '_, R>,
+    teller: &mut Teller,
+    mut me: ThreadData,
+) -> Option<u64> {
     let mut paid = 0u64;
     for _ in 0..10_000 {
         if paid == 100 {
@@ -39,14 +49,20 @@ pub fn run<R>(rt: R, alloc: Global) -> Result<(u64, usize), anyhow::Error>
 where
     R: Wait + Threads + RandomSource + Sync + Copy + Drop,
 {
-    let lot = ParkingLot::new(rt, alloc, 3, 1)?;
+    let lot = ParkingLot::new(rt, alloc, 3, 5)?;
     let table = table_for(alloc, &lot, 1, 4)?;
     let hasher = RandomState::new(&rt)?;
     let (accounts, mut tellers) = Recorded::new(alloc, 4, hasher.clone()?, 2, &table)?;
-    let (Some(mut b), Some(mut a)) = (tellers.pop(), tellers.pop()) else { return Ok((0, 0)) };
+    let (Some(mut b), Some(mut a)) = (tellers.pop(), tellers.pop()) else {
+        return Ok((0, 0))
+    };
     let (one, two, mut me) = (lot.thread_data()?, lot.thread_data()?, lot.thread_data()?);
     accounts.insert(7, 1000, &mut a, &mut me)?;
-    let (_, _) = thread::join(&rt, || pay_all(&accounts, &mut a, one), || pay_all(&accounts, &mut b, two));
+    let (_, _) = thread::join(
+        &rt,
+        || pay_all(&accounts, &mut a, one),
+        || pay_all(&accounts, &mut b, two),
+    );
     let balance = accounts.get_copied(&7, &mut a, &mut me)?;
 
     let mut logs = Vec::new(alloc);

@@ -56,7 +56,10 @@ where
 {
     let lot = ParkingLot::new(rt, alloc, 3, 1)?;
     let table = table_for(alloc, &lot, 1, 8)?;
-    let cache = Cache { squares: DashMap::with_shard_amount(alloc, 8, &table)?, time: AtomicU64::new(0) };
+    let cache = Cache {
+        squares: DashMap::with_shard_amount(alloc, 8, &table)?,
+        time: AtomicU64::new(0),
+    };
     let (one, two, mut me) = (lot.thread_data()?, lot.thread_data()?, lot.thread_data()?);
     let (low, high) = thread::join(&rt, || cache.sum(0..60, one), || cache.sum(40..100, two));
     let kept = cache.squares.len(&mut me);

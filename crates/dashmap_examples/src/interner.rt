@@ -57,15 +57,19 @@ pub fn run<R>(rt: R, alloc: Global) -> Result<(u64, u64, usize, usize), anyhow::
 where
     R: Wait + Threads + RandomSource + Sync + Copy + Drop,
 {
-    let lot = ParkingLot::new(rt, alloc, 3, 1)?;
+    let lot = ParkingLot::new(rt, alloc, 3, 4)?;
     let table = table_for(alloc, &lot, 2, 8)?;
-    let numbers = DashMap::with_shard_amount(alloc, 8, &table)?;
-    let texts = DashMap::with_shard_amount(alloc, 8, &table)?;
-    let interner = Interner { numbers, texts, next: AtomicU64::new(0), alloc };
+    let known = Interner {
+        numbers: DashMap::with_shard_amount(alloc, 8, &table)?,
+        texts: DashMap::with_shard_amount(alloc, 8, &table)?,
+        next: AtomicU64::new(0),
+        alloc,
+    };
     let (one, two, mut me) = (lot.thread_data()?, lot.thread_data()?, lot.thread_data()?);
     let words = ["map", "lock", "shard", "guard"];
-    let (here, there) = thread::join(&rt, || interner.ask(&words, one), || interner.ask(&words, two));
-    let shard = interner.number("shard", &mut me).unwrap_or(0);
-    let letters = interner.bytes(shard, &mut me).unwrap_or(0);
-    Ok((here.unwrap_or(0), there.unwrap_or(0), interner.texts.len(&mut me), letters))
+    let (here, there) = thread::join(&rt, || known.ask(&words, one), || known.ask(&words, two));
+    let shard = known.number("shard", &mut me).unwrap_or(0);
+    let letters = known.bytes(shard, &mut me).unwrap_or(0);
+    let texts = known.texts.len(&mut me);
+    Ok((here.unwrap_or(0), there.unwrap_or(0), texts, letters))
 }

@@ -14,10 +14,17 @@ fn main(rt: HostRuntime) -> Result<(), anyhow::Error> {
     let (open, all, some) = registry::run(rt, rt.alloc())?;
     println!(rt; "registry: {open} open, {all} reached, {some} without ben")?;
     let (grown, requests, bytes, errors) = metrics::run(rt, rt.alloc())?;
-    println!(rt; "metrics: sums only grew: {grown}; {requests} requests, {bytes} bytes, {errors} errors")?;
+    println!(rt;
+        "metrics: sums only grew: {grown}; {requests} requests, {bytes} bytes, {errors} errors"
+    )?;
     let (here, there, texts, letters) = interner::run(rt, rt.alloc())?;
-    println!(rt; "interner: sums {here} and {there} of {texts} texts, shard has {letters} letters")?;
+    println!(rt;
+        "interner: sums {here} and {there} of {texts} texts, shard has {letters} letters"
+    )?;
     let (balance, calls) = audit::run(rt, rt.alloc())?;
-    println!(rt; "audit: the balance is {balance}, in one legal history of all calls: {}", calls >= 402)?;
+    println!(rt;
+        "audit: the balance is {balance}, in one legal history of all calls: {}",
+        calls >= 402
+    )?;
     Ok(())
 }

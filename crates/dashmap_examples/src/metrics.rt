@@ -1,6 +1,4 @@
 //! A table of metrics: a worker counts, and another thread reads all counters meanwhile by `iter`.
-//!
-//! An item of `iter` is a `Result`, as it shares its shard's hold, which takes memory.
 
 use dashmap::prelude::*;
 use std::alloc::Global;
@@ -10,54 +8,58 @@ use std::sync::Wait;
 use std::thread::{self, Threads};
 
 /// Counters by name.
-type Metrics<'t, 'l, R> = DashMap<'t, 'l, &'static str, u64, RandomState, R>;
-
-/// Adds to a counter, which begins at 0.
-fn add<R: Wait>(metrics: &Metrics<'_, '_, R>, name: &'static str, by: u64, me: &mut ThreadData) -> Option<()> {
-    let mut count = metrics.entry(name, me).ok()?.or_insert(0);
-    *count = count.wrapping_add(by);
-    Some(())
+#[derive(Drop)]
+struct Metrics<'t, 'l, R> {
+    counts: DashMap<'t, 'l, &'static str, u64, RandomState, R>,
 }
 
-/// A worker: 400 requests of 3 bytes, every tenth of which fails.
-fn work<R: Wait>(metrics: &Metrics<'_, '_, R>, mut me: ThreadData) -> Option<()> {
-    for request in 0..400 {
-        add(metrics, "requests", 1, &mut me)?;
-        add(metrics, "bytes", 3, &mut me)?;
-        if request % 10 == 0 {
-            add(metrics, "errors", 1, &mut me)?;
+impl<R: Wait> Metrics<'_, '_, R> {
+    /// Adds to a counter, which begins at 0.
+    fn add(&self, name: &'static str, by: u64, me: &mut ThreadData) -> Option<()> {
+        let mut count = self.counts.entry(name, me).ok()?.or_insert(0);
+        *count = count.wrapping_add(by);
+        Some(())
+    }
+
+    /// A worker: 400 requests of 3 bytes, every tenth of which fails.
+    fn work(&self, mut me: ThreadData) {
+        for request in 0..400 {
+            let _ = self.add("requests", 1, &mut me);
+            let _ = self.add("bytes", 3, &mut me);
+            if request % 10 == 0 {
+                let _ = self.add("errors", 1, &mut me);
+            }
         }
     }
-    Some(())
-}
 
-/// The sum of all counters. As the thread's data was lent, the walk borrows it anew, and is asked item by item.
-fn sum<R: Wait>(metrics: &Metrics<'_, '_, R>, me: &mut ThreadData) -> u64 {
-    let mut walk = {
-        let me = &mut *me;
-        metrics.iter(me)
-    };
-    let mut sum = 0u64;
-    while let Some(Ok(counter)) = walk.next() {
-        sum = sum.wrapping_add(*counter);
+    /// The sum of all counters. The walk borrows the thread's data anew, as they were lent.
+    fn sum(&self, me: &mut ThreadData) -> u64 {
+        let mut walk = {
+            let me = &mut *me;
+            self.counts.iter(me)
+        };
+        let mut sum = 0u64;
+        while let Some(Ok(count)) = walk.next() {
+            sum = sum.wrapping_add(*count);
+        }
+        sum
     }
-    sum
-}
 
-/// Scrapes ten times, and answers whether no sum was less than the one before.
-fn scrape<R: Wait>(metrics: &Metrics<'_, '_, R>, mut me: ThreadData) -> bool {
-    let (mut grown, mut last) = (true, 0u64);
-    for _ in 0..10 {
-        let now = sum(metrics, &mut me);
-        grown &= last <= now;
-        last = now;
+    /// Scrapes ten times, and answers whether no sum was less than the one before.
+    fn scrape(&self, mut me: ThreadData) -> bool {
+        let (mut grown, mut last) = (true, 0u64);
+        for _ in 0..10 {
+            let now = self.sum(&mut me);
+            grown &= last <= now;
+            last = now;
+        }
+        grown
     }
-    grown
-}
 
-/// What a counter has.
-fn read<R: Wait>(metrics: &Metrics<'_, '_, R>, name: &'static str, me: &mut ThreadData) -> u64 {
-    metrics.view(&name, |_, count| *count, me).unwrap_or(0)
+    /// What a counter has.
+    fn read(&self, name: &'static str, me: &mut ThreadData) -> u64 {
+        self.counts.view(&name, |_, count| *count, me).unwrap_or(0)
+    }
 }
 
 /// Whether sums only grew while a worker counted, and then its requests, bytes and errors.
@@ -65,11 +67,13 @@ pub fn run<R>(rt: R, alloc: Global) -> Result<(bool, u64, u64, u64), anyhow::Err
 where
     R: Wait + Threads + RandomSource + Sync + Copy + Drop,
 {
-    let lot = ParkingLot::new(rt, alloc, 3, 1)?;
+    let lot = ParkingLot::new(rt, alloc, 3, 3)?;
     let table = table_for(alloc, &lot, 1, 8)?;
-    let metrics: Metrics<'_, '_, R> = DashMap::with_shard_amount(alloc, 8, &table)?;
+    let counts = DashMap::with_shard_amount(alloc, 8, &table)?;
+    let metrics = Metrics { counts };
     let (one, two, mut me) = (lot.thread_data()?, lot.thread_data()?, lot.thread_data()?);
-    let (grown, _) = thread::join(&rt, || scrape(&metrics, one), || work(&metrics, two));
-    let (requests, bytes) = (read(&metrics, "requests", &mut me), read(&metrics, "bytes", &mut me));
-    Ok((grown, requests, bytes, read(&metrics, "errors", &mut me)))
+    let (grown, ()) = thread::join(&rt, || metrics.scrape(one), || metrics.work(two));
+    let requests = metrics.read("requests", &mut me);
+    let bytes = metrics.read("bytes", &mut me);
+    Ok((grown, requests, bytes, metrics.read("errors", &mut me)))
 }

@@ -10,43 +10,42 @@ use std::random::RandomSource;
 use std::sync::Wait;
 use std::thread::{self, Threads};
 
-/// A connection: who is at its other end, and how many messages wait for it.
+/// Connections by who serves them and their numbers, each with how many messages it got.
 #[derive(Drop)]
-struct Connection {
-    name: &'static str,
-    unread: u64,
+struct Registry<'t, 'l, R> {
+    open: DashMap<'t, 'l, (&'static str, u64), u64, RandomState, R>,
 }
 
-/// Connections by their numbers.
-type Registry<'t, 'l, R> = DashMap<'t, 'l, u64, Connection, RandomState, R>;
-
-/// Opens a hundred connections from a number on, and closes every fifth again. Answers how many stay open.
-fn serve<R: Wait>(registry: &Registry<'_, '_, R>, name: &'static str, first: u64, mut me: ThreadData) -> u64 {
-    let mut open = 0u64;
-    for number in first..first.saturating_add(100) {
-        let opened = registry.insert(number, Connection { name, unread: 0 }, &mut me).is_ok();
-        let closed = number % 5 == 0 && registry.remove(&number, &mut me).is_some();
-        open = open.wrapping_add(u64::from(opened && !closed));
+impl<R: Wait + Threads + Sync> Registry<'_, '_, R> {
+    /// Opens a hundred connections, and closes every fifth again. Answers how many stay open.
+    fn serve(&self, name: &'static str, mut me: ThreadData) -> u64 {
+        let mut count = 0u64;
+        for number in 0..100 {
+            let opened = self.open.insert((name, number), 0, &mut me).is_ok();
+            let closed = number % 5 == 0 && self.open.remove(&(name, number), &mut me).is_some();
+            count = count.wrapping_add(u64::from(opened && !closed));
+        }
+        count
     }
-    open
-}
 
-/// Two threads serve beside each other.
-fn both<R: Wait + Threads + Sync>(rt: &R, all: &Registry<'_, '_, R>, one: ThreadData, two: ThreadData) -> u64 {
-    let (ben, eve) = thread::join(rt, || serve(all, "ben", 100, one), || serve(all, "eve", 200, two));
-    ben.wrapping_add(eve)
-}
-
-/// Sends a message to each connection, and answers how many it reached.
-fn broadcast<R: Wait>(rt: &R, registry: &Registry<'_, '_, R>, me: &mut ThreadData) -> u64 {
-    let mut walk = registry.iter_mut(me);
-    let mut reached = 0u64;
-    for _ in rt.forever() {
-        let Some(mut connection) = walk.next_mut() else { break };
-        connection.unread = connection.unread.wrapping_add(1);
-        reached = reached.wrapping_add(1);
+    /// Two threads serve beside each other.
+    fn serve_both(&self, rt: &R, one: ThreadData, two: ThreadData) -> u64 {
+        let (ben, eve) = thread::join(rt, || self.serve("ben", one), || self.serve("eve", two));
+        ben.wrapping_add(eve)
     }
-    reached
+
+    /// Sends a message to each connection, and answers how many it reached.
+    fn broadcast(&self, rt: &R, me: &mut ThreadData) -> u64 {
+        let (mut walk, mut reached) = (self.open.iter_mut(me), 0u64);
+        for _ in rt.forever() {
+            let Some(mut messages) = walk.next_mut() else {
+                break
+            };
+            *messages = messages.wrapping_add(1);
+            reached = reached.wrapping_add(1);
+        }
+        reached
+    }
 }
 
 /// How many connections three threads left open, how many a broadcast reached, and how many one without ben's.
@@ -54,13 +53,15 @@ pub fn run<R>(rt: R, alloc: Global) -> Result<(u64, u64, u64), anyhow::Error>
 where
     R: Wait + Threads + RandomSource + Sync + Copy + Drop,
 {
-    let lot = ParkingLot::new(rt, alloc, 4, 1)?;
+    let lot = ParkingLot::new(rt, alloc, 4, 2)?;
     let table = table_for(alloc, &lot, 1, 8)?;
-    let all: Registry<'_, '_, R> = DashMap::with_shard_amount(alloc, 8, &table)?;
+    let open = DashMap::with_shard_amount(alloc, 8, &table)?;
+    let all = Registry { open };
+    let (a, b, c) = (lot.thread_data()?, lot.thread_data()?, lot.thread_data()?);
+    let (ann, others) = thread::join(&rt, || all.serve("ann", a), || all.serve_both(&rt, b, c));
     let mut me = lot.thread_data()?;
-    let (one, two, three) = (lot.thread_data()?, lot.thread_data()?, lot.thread_data()?);
-    let (ann, others) = thread::join(&rt, || serve(&all, "ann", 0, one), || both(&rt, &all, two, three));
-    let reached = broadcast(&rt, &all, &mut me);
-    all.retain(|_, connection| connection.name != "ben", &mut me);
-    Ok((ann.wrapping_add(others), reached, broadcast(&rt, &all, &mut me)))
+    let reached = all.broadcast(&rt, &mut me);
+    all.open.retain(|(name, _), _| *name != "ben", &mut me);
+    let left = all.broadcast(&rt, &mut me);
+    Ok((ann.wrapping_add(others), reached, left))
 }

@@ -12,7 +12,10 @@ type Answers<'t, 'l, R> = RwLock<'t, 'l, Vec<(u64, u64)>, R>;
 
 /// What is kept for a question.
 fn kept(answers: &[(u64, u64)], question: u64) -> Option<u64> {
-    answers.iter().find(|pair| pair.0 == question).map(|pair| pair.1)
+    answers
+        .iter()
+        .find(|pair| pair.0 == question)
+        .map(|pair| pair.1)
 }
 
 /// The number of steps to 1 of Collatz's rule, of a thousand at most.
@@ -22,7 +25,11 @@ fn steps(question: u64) -> u64 {
         if number <= 1 {
             return step;
         }
-        number = if number % 2 == 0 { number / 2 } else { number.wrapping_mul(3).wrapping_add(1) };
+        number = if number % 2 == 0 {
+            number / 2
+        } else {
+            number.wrapping_mul(3).wrapping_add(1)
+        };
     }
     1000
 }
@@ -41,7 +48,7 @@ fn found<R: Wait>(answers: &Answers<'_, '_, R>, question: u64, me: &mut ThreadDa
     }
     let answer = steps(question);
     let mut writer = RwLockUpgradableReadGuard::upgrade(reader, me);
-    let _refused = writer.push((question, answer));  // without memory it is worked out again
+    let _refused = writer.push((question, answer)); // without memory it is worked out again
     answer
 }
 
@@ -63,11 +70,18 @@ fn longest<R: Wait>(answers: &Answers<'_, '_, R>, below: u64, mut me: ThreadData
 }
 
 /// The longest ways that two threads found beside each other, and how many answers are kept.
-pub fn run<R: Wait + Threads + Sync + Copy + Drop>(rt: R, alloc: Global) -> Result<(u64, u64, usize), anyhow::Error> {
-    let lot = ParkingLot::new(rt, alloc, 2, 1)?;
+pub fn run<R: Wait + Threads + Sync + Copy + Drop>(
+    rt: R,
+    alloc: Global,
+) -> Result<(u64, u64, usize), anyhow::Error> {
+    let lot = ParkingLot::new(rt, alloc, 2, 4)?;
     let table = LockTable::new(alloc, &lot, 1)?;
-    let answers: Answers<'_, '_, R> = RwLock::new(&table, 8, Vec::new(alloc))?;  // at most 8 readers
+    let answers: Answers<'_, '_, R> = RwLock::new(&table, 8, Vec::new(alloc))?; // at most 8 readers
     let (one, two) = (lot.thread_data()?, lot.thread_data()?);
-    let (low, high) = thread::join(&rt, || longest(&answers, 20, one), || longest(&answers, 30, two));
+    let (low, high) = thread::join(
+        &rt,
+        || longest(&answers, 20, one),
+        || longest(&answers, 30, two),
+    );
     Ok((low, high, answers.into_inner().len()))
 }

@@ -13,7 +13,12 @@ struct Visits {
 }
 
 /// Counts a visitor's visits, one by one.
-fn visit<R: Wait>(visits: &Mutex<'_, '_, Visits, R>, name: &'static str, times: u64, mut me: ThreadData) {
+fn visit<R: Wait>(
+    visits: &Mutex<'_, '_, Visits, R>,
+    name: &'static str,
+    times: u64,
+    mut me: ThreadData,
+) {
     for _ in 0..times {
         let mut visits = visits.lock(&mut me);
         visits.count = visits.count.wrapping_add(1);
@@ -34,12 +39,25 @@ fn count_beside<R: Wait>(visits: &Mutex<'_, '_, Visits, R>, me: &mut ThreadData)
 }
 
 /// How many visits there were, and what a try gives while the mutex is locked.
-pub fn run<R: Wait + Threads + Sync + Copy + Drop>(rt: R, alloc: Global) -> Result<(u64, Option<u64>), anyhow::Error> {
-    let lot = ParkingLot::new(rt, alloc, 3, 1)?;  // three threads
-    let table = LockTable::new(alloc, &lot, 1)?;  // a lock
-    let visits = Mutex::new(&table, Visits { count: 0, last: "nobody" })?;
+pub fn run<R: Wait + Threads + Sync + Copy + Drop>(
+    rt: R,
+    alloc: Global,
+) -> Result<(u64, Option<u64>), anyhow::Error> {
+    let lot = ParkingLot::new(rt, alloc, 3, 1)?; // three threads
+    let table = LockTable::new(alloc, &lot, 1)?; // a lock
+    let visits = Mutex::new(
+        &table,
+        Visits {
+            count: 0,
+            last: "nobody",
+        },
+    )?;
     let (one, two, mut me) = (lot.thread_data()?, lot.thread_data()?, lot.thread_data()?);
-    let (_, _) = thread::join(&rt, || visit(&visits, "ann", 300, one), || visit(&visits, "ben", 200, two));
+    let (_, _) = thread::join(
+        &rt,
+        || visit(&visits, "ann", 300, one),
+        || visit(&visits, "ben", 200, two),
+    );
     let beside = count_beside(&visits, &mut me);
-    Ok((visits.into_inner().count, beside))  // the owner needs no lock
+    Ok((visits.into_inner().count, beside)) // the owner needs no lock
 }

@@ -33,7 +33,11 @@ fn search(above: u64) -> Result<u64, NotFound> {
 impl<'t, 'l, R: Wait> Lazy<'t, 'l, R> {
     /// One that nobody has asked yet.
     fn over(table: &'t LockTable<'l, R>) -> Result<Lazy<'t, 'l, R>, TableFull> {
-        Ok(Lazy { once: Once::new(table)?, number: AtomicU64::new(0), runs: AtomicU64::new(0) })
+        Ok(Lazy {
+            once: Once::new(table)?,
+            number: AtomicU64::new(0),
+            runs: AtomicU64::new(0),
+        })
     }
 
     /// The number. Whoever asks first works it out; who comes meanwhile waits for it.
@@ -57,18 +61,26 @@ impl<'t, 'l, R: Wait> Lazy<'t, 'l, R> {
 }
 
 /// Two threads ask beside each other.
-fn both<R: Wait + Threads + Sync>(rt: &R, lazy: &Lazy<'_, '_, R>, one: ThreadData, two: ThreadData) -> u64 {
+fn both<R: Wait + Threads + Sync>(
+    rt: &R,
+    lazy: &Lazy<'_, '_, R>,
+    one: ThreadData,
+    two: ThreadData,
+) -> u64 {
     let (here, there) = thread::join(rt, || lazy.ask(5005, one), || lazy.ask(5005, two));
     here.wrapping_add(there)
 }
 
 /// How many answers were right, how often the closure ran, and whether one that can't work it out has failed.
-pub fn run<R: Wait + Threads + Sync + Copy + Drop>(rt: R, alloc: Global) -> Result<(u64, u64, bool), anyhow::Error> {
-    let lot = ParkingLot::new(rt, alloc, 3, 1)?;
+pub fn run<R: Wait + Threads + Sync + Copy + Drop>(
+    rt: R,
+    alloc: Global,
+) -> Result<(u64, u64, bool), anyhow::Error> {
+    let lot = ParkingLot::new(rt, alloc, 3, 3)?;
     let table = LockTable::new(alloc, &lot, 2)?;
     let (lazy, never) = (Lazy::over(&table)?, Lazy::over(&table)?);
     let (one, two, mut me) = (lot.thread_data()?, lot.thread_data()?, lot.thread_data()?);
     let right = both(&rt, &lazy, one, two);
-    let failed = never.get(5500, &mut me).is_err();  // no closure runs after one that failed
+    let failed = never.get(5500, &mut me).is_err(); // no closure runs after one that failed
     Ok((right, lazy.runs.into_inner(), failed))
 }

@@ -30,6 +30,8 @@ fn main(rt: HostRuntime) -> Result<(), anyhow::Error> {
     let (asked, always) = turns::run(rt, rt.alloc())?;
     println!(rt; "turns: {asked} handed over, {always} at a fair mutex")?;
     let (alone, refused, lines) = nested::run(rt, rt.alloc())?;
-    println!(rt; "nested: {alone} squares drawn alone, a third hold refused: {refused}, {lines} lines")?;
+    println!(rt;
+        "nested: {alone} squares drawn alone, a third hold refused: {refused}, {lines} lines"
+    )?;
     Ok(())
 }

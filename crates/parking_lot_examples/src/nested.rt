@@ -11,14 +11,18 @@ type Canvas<'t, 'l, R> = ReentrantMutex<'t, 'l, AtomicU64, R>;
 
 /// Draws a line, under a hold of its own. False where there are too many holds.
 fn line<R: Wait>(canvas: &Canvas<'_, '_, R>, me: &mut ThreadData) -> bool {
-    let Ok(lines) = canvas.lock(me) else { return false };
+    let Ok(lines) = canvas.lock(me) else {
+        return false
+    };
     lines.fetch_add(1, Ordering::SeqCst);
     true
 }
 
 /// Draws a square of four lines, whose holds lie in one. True if nobody else drew meanwhile.
 fn square<R: Wait>(canvas: &Canvas<'_, '_, R>, me: &mut ThreadData) -> bool {
-    let Ok(lines) = canvas.lock(me) else { return false };
+    let Ok(lines) = canvas.lock(me) else {
+        return false
+    };
     let before = lines.load(Ordering::SeqCst);
     for _ in 0..4 {
         let _ = line(canvas, me);
@@ -37,17 +41,26 @@ fn draw<R: Wait>(canvas: &Canvas<'_, '_, R>, mut me: ThreadData) -> u64 {
 
 /// Whether a third hold is refused beside two.
 fn third_refused<R: Wait>(canvas: &Canvas<'_, '_, R>, me: &mut ThreadData) -> bool {
-    let (Ok(_first), Ok(_second)) = (canvas.lock(me), canvas.lock(me)) else { return false };
+    let (Ok(_first), Ok(_second)) = (canvas.lock(me), canvas.lock(me)) else {
+        return false
+    };
     !line(canvas, me)
 }
 
 /// How many squares two threads drew alone, whether a third hold is refused, and how many lines there are.
-pub fn run<R: Wait + Threads + Sync + Copy + Drop>(rt: R, alloc: Global) -> Result<(u64, bool, u64), anyhow::Error> {
-    let lot = ParkingLot::new(rt, alloc, 3, 1)?;
+pub fn run<R: Wait + Threads + Sync + Copy + Drop>(
+    rt: R,
+    alloc: Global,
+) -> Result<(u64, bool, u64), anyhow::Error> {
+    let lot = ParkingLot::new(rt, alloc, 3, 9)?;
     let table = LockTable::new(alloc, &lot, 2)?;
-    let canvas: Canvas<'_, '_, R> = ReentrantMutex::new(&table, 2, AtomicU64::new(0))?;  // at most two holds at a time
+    let canvas: Canvas<'_, '_, R> = ReentrantMutex::new(&table, 2, AtomicU64::new(0))?; // at most two holds at a time
     let (one, two, mut me) = (lot.thread_data()?, lot.thread_data()?, lot.thread_data()?);
     let (here, there) = thread::join(&rt, || draw(&canvas, one), || draw(&canvas, two));
     let refused = third_refused(&canvas, &mut me);
-    Ok((here.wrapping_add(there), refused, canvas.into_inner().into_inner()))
+    Ok((
+        here.wrapping_add(there),
+        refused,
+        canvas.into_inner().into_inner(),
+    ))
 }

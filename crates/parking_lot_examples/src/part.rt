@@ -17,7 +17,11 @@ fn score<R: Wait>(player: &Mutex<'_, '_, Player, R>, by: u64, me: &mut ThreadDat
 }
 
 /// Gives a badge, and answers the one before.
-fn award<R: Wait>(player: &Mutex<'_, '_, Player, R>, new: &'static str, me: &mut ThreadData) -> Option<&'static str> {
+fn award<R: Wait>(
+    player: &Mutex<'_, '_, Player, R>,
+    new: &'static str,
+    me: &mut ThreadData,
+) -> Option<&'static str> {
     let mut badge = Guard::map(player.lock(me), Second);
     let old = *badge;
     *badge = Some(new);
@@ -32,15 +36,18 @@ fn letters<R: Wait>(badge: &Badge<'_, '_, R>, me: &mut ThreadData) -> Option<usi
     match Guard::try_map(badge.lock(me), Inside) {
         Ok(name) => Some((*name).len()),
         Err(whole) => {
-            drop(whole);  // the same guard, still locked: there was no badge
+            drop(whole); // the same guard, still locked: there was no badge
             None
         }
     }
 }
 
 /// A player's points, the badge before the last, and how many letters another badge has, first missing and then there.
-pub fn run<R: Wait + Drop>(rt: R, alloc: Global) -> Result<(u64, Option<&'static str>, Option<usize>), anyhow::Error> {
-    let lot = ParkingLot::new(rt, alloc, 1, 1)?;
+pub fn run<R: Wait + Drop>(
+    rt: R,
+    alloc: Global,
+) -> Result<(u64, Option<&'static str>, Option<usize>), anyhow::Error> {
+    let lot = ParkingLot::new(rt, alloc, 1, 5)?;
     let table = LockTable::new(alloc, &lot, 2)?;
     let mut me = lot.thread_data()?;
     let player: Mutex<'_, '_, Player, R> = Mutex::new(&table, (10, None))?;

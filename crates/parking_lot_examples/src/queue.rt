@@ -25,8 +25,17 @@ struct Queue<'t, 'l, R> {
 impl<'t, 'l, R: Wait> Queue<'t, 'l, R> {
     /// An empty queue, which takes two rows of the table.
     fn over(table: &'t LockTable<'l, R>, alloc: Global) -> Result<Queue<'t, 'l, R>, TableFull> {
-        let tasks = Mutex::new(table, Tasks { waiting: VecDeque::new(alloc), closed: false })?;
-        Ok(Queue { tasks, changed: Condvar::new(table)? })
+        let tasks = Mutex::new(
+            table,
+            Tasks {
+                waiting: VecDeque::new(alloc),
+                closed: false,
+            },
+        )?;
+        Ok(Queue {
+            tasks,
+            changed: Condvar::new(table)?,
+        })
     }
 
     /// Puts a task in; false where there was no memory.
@@ -45,7 +54,13 @@ impl<'t, 'l, R: Wait> Queue<'t, 'l, R> {
     /// Waits for a task, and takes it; None once the queue is closed and empty.
     fn take(&self, me: &mut ThreadData) -> Option<u64> {
         let mut tasks = self.tasks.lock(me);
-        self.changed.wait_while(&mut tasks, me, |tasks| tasks.waiting.is_empty() && !tasks.closed).ok()?;
+        self.changed
+            .wait_while(
+                &mut tasks,
+                me,
+                |tasks| tasks.waiting.is_empty() && !tasks.closed,
+            )
+            .ok()?;
         tasks.waiting.pop_front()
     }
 }
@@ -54,7 +69,9 @@ impl<'t, 'l, R: Wait> Queue<'t, 'l, R> {
 fn work<R: Wait>(rt: &R, queue: &Queue<'_, '_, R>, mut me: ThreadData) -> (u64, u64) {
     let (mut count, mut sum) = (0u64, 0u64);
     for _ in rt.forever() {
-        let Some(task) = queue.take(&mut me) else { break };
+        let Some(task) = queue.take(&mut me) else {
+            break
+        };
         count = count.wrapping_add(1);
         sum = sum.wrapping_add(task);
     }
@@ -72,17 +89,29 @@ fn fill<R: Wait>(queue: &Queue<'_, '_, R>, mut me: ThreadData) -> u64 {
 }
 
 /// Two workers beside each other: how many tasks they took, and the sum of these.
-fn both<R: Wait + Threads + Sync>(rt: &R, queue: &Queue<'_, '_, R>, one: ThreadData, two: ThreadData) -> (u64, u64) {
+fn both<R: Wait + Threads + Sync>(
+    rt: &R,
+    queue: &Queue<'_, '_, R>,
+    one: ThreadData,
+    two: ThreadData,
+) -> (u64, u64) {
     let (a, b) = thread::join(rt, || work(rt, queue, one), || work(rt, queue, two));
     (a.0.wrapping_add(b.0), a.1.wrapping_add(b.1))
 }
 
 /// How many tasks were put in and taken, and the sum of those that were taken.
-pub fn run<R: Wait + Threads + Sync + Copy + Drop>(rt: R, alloc: Global) -> Result<(u64, u64, u64), anyhow::Error> {
-    let lot = ParkingLot::new(rt, alloc, 3, 1)?;
-    let table = LockTable::new(alloc, &lot, 2)?;  // a mutex and a condition variable
+pub fn run<R: Wait + Threads + Sync + Copy + Drop>(
+    rt: R,
+    alloc: Global,
+) -> Result<(u64, u64, u64), anyhow::Error> {
+    let lot = ParkingLot::new(rt, alloc, 3, 2)?;
+    let table = LockTable::new(alloc, &lot, 2)?; // a mutex and a condition variable
     let queue = Queue::over(&table, alloc)?;
     let (one, two, three) = (lot.thread_data()?, lot.thread_data()?, lot.thread_data()?);
-    let (put, (taken, sum)) = thread::join(&rt, || fill(&queue, one), || both(&rt, &queue, two, three));
+    let (put, (taken, sum)) = thread::join(
+        &rt,
+        || fill(&queue, one),
+        || both(&rt, &queue, two, three),
+    );
     Ok((put, taken, sum))
 }

@@ -17,9 +17,16 @@ struct Sale<'t, 'l, R: Wait> {
 }
 
 /// Begins a sale, which takes a share of the seat of its own.
-fn begin<'t, 'l, R: Wait>(seat: &Seat<'t, 'l, R>, times: u64, me: &mut ThreadData) -> Option<Sale<'t, 'l, R>> {
+fn begin<'t, 'l, R: Wait>(
+    seat: &Seat<'t, 'l, R>,
+    times: u64,
+    me: &mut ThreadData,
+) -> Option<Sale<'t, 'l, R>> {
     let own = Arc::try_clone(seat).ok()?;
-    Some(Sale { times, seat: Mutex::lock_arc(&own, me).ok()? })  // `own` is gone, and the guard holds on
+    Some(Sale {
+        times,
+        seat: Mutex::lock_arc(&own, me).ok()?,
+    }) // `own` is gone, and the guard holds on
 }
 
 /// Ends a sale: the customer has bought the seat, as often as he wanted. Answers how often it was sold by now.
@@ -33,7 +40,7 @@ fn end<R: Wait>(sale: Sale<'_, '_, R>) -> u64 {
 
 /// Whether a seat can't be had beside a sale, how often it was sold in two, and whether it is locked at last.
 pub fn run<R: Wait + Drop>(rt: R, alloc: Global) -> Result<(bool, u64, bool), anyhow::Error> {
-    let lot = ParkingLot::new(rt, alloc, 1, 1)?;
+    let lot = ParkingLot::new(rt, alloc, 1, 6)?;
     let table = LockTable::new(alloc, &lot, 1)?;
     let mut me = lot.thread_data()?;
     let seat = Arc::new(alloc, Mutex::new(&table, 0)?)?;

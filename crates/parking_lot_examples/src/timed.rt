@@ -12,8 +12,15 @@ use std::time::{Clock, Duration};
 type Printer<'t, 'l, R> = Mutex<'t, 'l, u64, R>;
 
 /// Prints a page if the printer is free within a time.
-fn print_within<R: Wait + Clock>(rt: &R, printer: &Printer<'_, '_, R>, time: Duration, me: &mut ThreadData) -> bool {
-    let Some(mut pages) = printer.try_lock_for(time, rt, me) else { return false };
+fn print_within<R: Wait + Clock>(
+    rt: &R,
+    printer: &Printer<'_, '_, R>,
+    time: Duration,
+    me: &mut ThreadData,
+) -> bool {
+    let Some(mut pages) = printer.try_lock_for(time, rt, me) else {
+        return false
+    };
     *pages = pages.wrapping_add(1);
     true
 }
@@ -26,7 +33,11 @@ fn print_all<R: Wait + Clock>(rt: &R, printer: &Printer<'_, '_, R>, mut me: Thre
 }
 
 /// Whether a page can be printed within 5 milliseconds while the printer is in use.
-fn print_beside<R: Wait + Clock>(rt: &R, printer: &Printer<'_, '_, R>, me: &mut ThreadData) -> bool {
+fn print_beside<R: Wait + Clock>(
+    rt: &R,
+    printer: &Printer<'_, '_, R>,
+    me: &mut ThreadData,
+) -> bool {
     let _guard = printer.lock(me);
     print_within(rt, printer, Duration::from_millis(5), me)
 }
@@ -37,11 +48,15 @@ pub fn run<R>(rt: R, alloc: Global) -> Result<(u64, bool, bool), anyhow::Error>
 where
     R: Wait + Threads + Clock + Sync + Copy + Drop,
 {
-    let lot = ParkingLot::new(rt, alloc, 3, 1)?;
+    let lot = ParkingLot::new(rt, alloc, 3, 7)?;
     let table = LockTable::new(alloc, &lot, 1)?;
     let printer: Printer<'_, '_, R> = Mutex::new(&table, 0)?;
     let (one, two, mut me) = (lot.thread_data()?, lot.thread_data()?, lot.thread_data()?);
-    let (_, _) = thread::join(&rt, || print_all(&rt, &printer, one), || print_all(&rt, &printer, two));
+    let (_, _) = thread::join(
+        &rt,
+        || print_all(&rt, &printer, one),
+        || print_all(&rt, &printer, two),
+    );
     let used = print_beside(&rt, &printer, &mut me);
     let free = print_within(&rt, &printer, Duration::from_millis(5), &mut me);
     Ok((printer.into_inner(), used, free))

@@ -50,7 +50,11 @@ where
 }
 
 /// Two threads take turns at a fair mutex.
-fn both_fairly<R>(rt: &R, lot: &ParkingLot<R>, turns: &FairMutex<'_, '_, u64, R>) -> Result<(), anyhow::Error>
+fn both_fairly<R>(
+    rt: &R,
+    lot: &ParkingLot<R>,
+    turns: &FairMutex<'_, '_, u64, R>,
+) -> Result<(), anyhow::Error>
 where
     R: Wait + Threads + Sync,
 {
@@ -60,8 +64,11 @@ where
 }
 
 /// How many turns were taken at a mutex that two threads hand over, each in its way, and at one that is always fair.
-pub fn run<R: Wait + Threads + Sync + Copy + Drop>(rt: R, alloc: Global) -> Result<(u64, u64), anyhow::Error> {
-    let lot = ParkingLot::new(rt, alloc, 4, 1)?;
+pub fn run<R: Wait + Threads + Sync + Copy + Drop>(
+    rt: R,
+    alloc: Global,
+) -> Result<(u64, u64), anyhow::Error> {
+    let lot = ParkingLot::new(rt, alloc, 4, 8)?;
     let table = LockTable::new(alloc, &lot, 2)?;
     let (asked, always) = (Mutex::new(&table, 0u64)?, FairMutex::new(&table, 0u64)?);
     both(&rt, &lot, &asked)?;
