@@ -44,6 +44,20 @@ fn pay_all<R: Wait>(
     Some(paid)
 }
 
+/// Two tellers pay beside each other.
+fn both<R: Wait + Threads + Sync>(
+    rt: &R,
+    accounts: &Accounts<'_, '_, R>,
+    (a, one): (&mut Teller, ThreadData),
+    (b, two): (&mut Teller, ThreadData),
+) {
+    let (_, _) = thread::join(
+        rt,
+        || pay_all(accounts, a, one),
+        || pay_all(accounts, b, two),
+    );
+}
+
 /// The balance that two tellers left, and how many calls there were, of which one legal history was found.
 pub fn run<R>(rt: R, alloc: Global) -> Result<(u64, usize), anyhow::Error>
 where
@@ -58,11 +72,7 @@ where
     };
     let (one, two, mut me) = (lot.thread_data()?, lot.thread_data()?, lot.thread_data()?);
     accounts.insert(7, 1000, &mut a, &mut me)?;
-    let (_, _) = thread::join(
-        &rt,
-        || pay_all(&accounts, &mut a, one),
-        || pay_all(&accounts, &mut b, two),
-    );
+    both(&rt, &accounts, (&mut a, one), (&mut b, two));
     let balance = accounts.get_copied(&7, &mut a, &mut me)?;
 
     let mut logs = Vec::new(alloc);

@@ -19,14 +19,18 @@ struct Cache<'t, 'l, R> {
     time: AtomicU64,
 }
 
-impl<R: Wait> Cache<'_, '_, R> {
+impl<R: Wait + Threads + Sync> Cache<'_, '_, R> {
     /// The square of a number, kept or worked out anew.
     fn square(&self, number: u64, me: &mut ThreadData) -> Option<u64> {
         let now = self.time.fetch_add(1, Ordering::SeqCst);
-        let entry = self.squares.entry(number, me).ok()?;
-        let mut kept = entry.or_insert_with(|| (number.wrapping_mul(number), 0));
-        kept.1 = now;
-        Some(kept.0)
+        match self.squares.entry(number, me) {
+            Ok(entry) => {
+                let mut kept = entry.or_insert_with(|| (number.wrapping_mul(number), 0));
+                kept.1 = now;
+                Some(kept.0)
+            }
+            Err(_) => None,
+        }
     }
 
     /// The sum of the squares of these numbers.
@@ -36,6 +40,11 @@ impl<R: Wait> Cache<'_, '_, R> {
             sum = sum.wrapping_add(self.square(number, &mut me).unwrap_or(0));
         }
         sum
+    }
+
+    /// The sums that two threads see beside each other.
+    fn both(&self, rt: &R, one: ThreadData, two: ThreadData) -> (u64, u64) {
+        thread::join(rt, || self.sum(0..60, one), || self.sum(40..100, two))
     }
 
     /// Uses five squares again, and lets all others go. Answers how many are left.
@@ -61,7 +70,7 @@ where
         time: AtomicU64::new(0),
     };
     let (one, two, mut me) = (lot.thread_data()?, lot.thread_data()?, lot.thread_data()?);
-    let (low, high) = thread::join(&rt, || cache.sum(0..60, one), || cache.sum(40..100, two));
+    let (low, high) = cache.both(&rt, one, two);
     let kept = cache.squares.len(&mut me);
     Ok((low, high, kept, cache.evict(&mut me)))
 }

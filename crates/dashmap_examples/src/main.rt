@@ -17,10 +17,8 @@ fn main(rt: HostRuntime) -> Result<(), anyhow::Error> {
     println!(rt;
         "metrics: sums only grew: {grown}; {requests} requests, {bytes} bytes, {errors} errors"
     )?;
-    let (here, there, texts, letters) = interner::run(rt, rt.alloc())?;
-    println!(rt;
-        "interner: sums {here} and {there} of {texts} texts, shard has {letters} letters"
-    )?;
+    let (here, there, texts) = interner::run(rt, rt.alloc())?;
+    println!(rt; "interner: sums {here} and {there} of the numbers of {texts} texts")?;
     let (balance, calls) = audit::run(rt, rt.alloc())?;
     println!(rt;
         "audit: the balance is {balance}, in one legal history of all calls: {}",

@@ -13,21 +13,22 @@ struct Metrics<'t, 'l, R> {
     counts: DashMap<'t, 'l, &'static str, u64, RandomState, R>,
 }
 
-impl<R: Wait> Metrics<'_, '_, R> {
+impl<R: Wait + Threads + Sync> Metrics<'_, '_, R> {
     /// Adds to a counter, which begins at 0.
-    fn add(&self, name: &'static str, by: u64, me: &mut ThreadData) -> Option<()> {
-        let mut count = self.counts.entry(name, me).ok()?.or_insert(0);
-        *count = count.wrapping_add(by);
-        Some(())
+    fn add(&self, name: &'static str, by: u64, me: &mut ThreadData) {
+        if let Ok(entry) = self.counts.entry(name, me) {
+            let mut count = entry.or_insert(0);
+            *count = count.wrapping_add(by);
+        }
     }
 
     /// A worker: 400 requests of 3 bytes, every tenth of which fails.
     fn work(&self, mut me: ThreadData) {
         for request in 0..400 {
-            let _ = self.add("requests", 1, &mut me);
-            let _ = self.add("bytes", 3, &mut me);
+            self.add("requests", 1, &mut me);
+            self.add("bytes", 3, &mut me);
             if request % 10 == 0 {
-                let _ = self.add("errors", 1, &mut me);
+                self.add("errors", 1, &mut me);
             }
         }
     }
@@ -56,6 +57,11 @@ impl<R: Wait> Metrics<'_, '_, R> {
         grown
     }
 
+    /// Scrapes while a worker counts.
+    fn both(&self, rt: &R, one: ThreadData, two: ThreadData) -> bool {
+        thread::join(rt, || self.scrape(one), || self.work(two)).0
+    }
+
     /// What a counter has.
     fn read(&self, name: &'static str, me: &mut ThreadData) -> u64 {
         self.counts.view(&name, |_, count| *count, me).unwrap_or(0)
@@ -72,7 +78,7 @@ where
     let counts = DashMap::with_shard_amount(alloc, 8, &table)?;
     let metrics = Metrics { counts };
     let (one, two, mut me) = (lot.thread_data()?, lot.thread_data()?, lot.thread_data()?);
-    let (grown, ()) = thread::join(&rt, || metrics.scrape(one), || metrics.work(two));
+    let grown = metrics.both(&rt, one, two);
     let requests = metrics.read("requests", &mut me);
     let bytes = metrics.read("bytes", &mut me);
     Ok((grown, requests, bytes, metrics.read("errors", &mut me)))

@@ -1,19 +1,19 @@
 //! A registry of connections: three threads open and close them, and a broadcast walks over all that are open.
 //!
-//! A writing walk (`iter_mut`) holds the shard of the pair that it lends, and needs no memory. `rt.forever()` counts the
-//! rounds of a loop whose end isn't known.
+//! A walk shares each shard's hold with whoever reads, so what it changes is atomic.
 
 use dashmap::prelude::*;
 use std::alloc::Global;
 use std::hash::RandomState;
 use std::random::RandomSource;
 use std::sync::Wait;
+use std::sync::atomic::{AtomicU64, Ordering};
 use std::thread::{self, Threads};
 
-/// Connections by who serves them and their numbers, each with how many messages it got.
+/// Connections by who serves them and their numbers, each with how many messages wait for it.
 #[derive(Drop)]
 struct Registry<'t, 'l, R> {
-    open: DashMap<'t, 'l, (&'static str, u64), u64, RandomState, R>,
+    open: DashMap<'t, 'l, (&'static str, u64), AtomicU64, RandomState, R>,
 }
 
 impl<R: Wait + Threads + Sync> Registry<'_, '_, R> {
@@ -21,7 +21,8 @@ impl<R: Wait + Threads + Sync> Registry<'_, '_, R> {
     fn serve(&self, name: &'static str, mut me: ThreadData) -> u64 {
         let mut count = 0u64;
         for number in 0..100 {
-            let opened = self.open.insert((name, number), 0, &mut me).is_ok();
+            let unread = AtomicU64::new(0);
+            let opened = self.open.insert((name, number), unread, &mut me).is_ok();
             let closed = number % 5 == 0 && self.open.remove(&(name, number), &mut me).is_some();
             count = count.wrapping_add(u64::from(opened && !closed));
         }
@@ -29,19 +30,30 @@ impl<R: Wait + Threads + Sync> Registry<'_, '_, R> {
     }
 
     /// Two threads serve beside each other.
-    fn serve_both(&self, rt: &R, one: ThreadData, two: ThreadData) -> u64 {
-        let (ben, eve) = thread::join(rt, || self.serve("ben", one), || self.serve("eve", two));
-        ben.wrapping_add(eve)
+    fn both(&self, rt: &R, one: ThreadData, two: ThreadData) -> u64 {
+        let (one, two) = thread::join(rt, || self.serve("ben", one), || self.serve("eve", two));
+        one.wrapping_add(two)
+    }
+
+    /// Three threads serve beside each other.
+    fn all(&self, rt: &R, one: ThreadData, two: ThreadData, three: ThreadData) -> u64 {
+        let (one, others) = thread::join(
+            rt,
+            || self.serve("ann", one),
+            || self.both(rt, two, three),
+        );
+        one.wrapping_add(others)
     }
 
     /// Sends a message to each connection, and answers how many it reached.
-    fn broadcast(&self, rt: &R, me: &mut ThreadData) -> u64 {
-        let (mut walk, mut reached) = (self.open.iter_mut(me), 0u64);
-        for _ in rt.forever() {
-            let Some(mut messages) = walk.next_mut() else {
-                break
-            };
-            *messages = messages.wrapping_add(1);
+    fn broadcast(&self, me: &mut ThreadData) -> u64 {
+        let mut walk = {
+            let me = &mut *me;
+            self.open.iter(me)
+        };
+        let mut reached = 0u64;
+        while let Some(Ok(unread)) = walk.next() {
+            unread.fetch_add(1, Ordering::SeqCst);
             reached = reached.wrapping_add(1);
         }
         reached
@@ -56,12 +68,11 @@ where
     let lot = ParkingLot::new(rt, alloc, 4, 2)?;
     let table = table_for(alloc, &lot, 1, 8)?;
     let open = DashMap::with_shard_amount(alloc, 8, &table)?;
-    let all = Registry { open };
+    let registry = Registry { open };
     let (a, b, c) = (lot.thread_data()?, lot.thread_data()?, lot.thread_data()?);
-    let (ann, others) = thread::join(&rt, || all.serve("ann", a), || all.serve_both(&rt, b, c));
     let mut me = lot.thread_data()?;
-    let reached = all.broadcast(&rt, &mut me);
-    all.open.retain(|(name, _), _| *name != "ben", &mut me);
-    let left = all.broadcast(&rt, &mut me);
-    Ok((ann.wrapping_add(others), reached, left))
+    let count = registry.all(&rt, a, b, c);
+    let reached = registry.broadcast(&mut me);
+    registry.open.retain(|(name, _), _| *name != "ben", &mut me);
+    Ok((count, reached, registry.broadcast(&mut me)))
 }

@@ -69,6 +69,14 @@ fn longest<R: Wait>(answers: &Answers<'_, '_, R>, below: u64, mut me: ThreadData
     most
 }
 
+/// Two threads ask beside each other.
+fn both<R>(rt: &R, all: &Answers<'_, '_, R>, one: ThreadData, two: ThreadData) -> (u64, u64)
+where
+    R: Wait + Threads + Sync,
+{
+    thread::join(rt, || longest(all, 20, one), || longest(all, 30, two))
+}
+
 /// The longest ways that two threads found beside each other, and how many answers are kept.
 pub fn run<R: Wait + Threads + Sync + Copy + Drop>(
     rt: R,
@@ -78,10 +86,6 @@ pub fn run<R: Wait + Threads + Sync + Copy + Drop>(
     let table = LockTable::new(alloc, &lot, 1)?;
     let answers: Answers<'_, '_, R> = RwLock::new(&table, 8, Vec::new(alloc))?; // at most 8 readers
     let (one, two) = (lot.thread_data()?, lot.thread_data()?);
-    let (low, high) = thread::join(
-        &rt,
-        || longest(&answers, 20, one),
-        || longest(&answers, 30, two),
-    );
+    let (low, high) = both(&rt, &answers, one, two);
     Ok((low, high, answers.into_inner().len()))
 }

@@ -6,7 +6,7 @@ use std::sync::Wait;
 use std::thread::{self, Threads};
 
 /// Visits, and who came last.
-#[derive(Drop)]
+#[derive(Default, Drop)]
 struct Visits {
     count: u64,
     last: &'static str,
@@ -38,6 +38,18 @@ fn count_beside<R: Wait>(visits: &Mutex<'_, '_, Visits, R>, me: &mut ThreadData)
     count_now(visits)
 }
 
+/// Two visitors come beside each other.
+fn both<R>(rt: &R, visits: &Mutex<'_, '_, Visits, R>, one: ThreadData, two: ThreadData)
+where
+    R: Wait + Threads + Sync,
+{
+    let (_, _) = thread::join(
+        rt,
+        || visit(visits, "ann", 300, one),
+        || visit(visits, "ben", 200, two),
+    );
+}
+
 /// How many visits there were, and what a try gives while the mutex is locked.
 pub fn run<R: Wait + Threads + Sync + Copy + Drop>(
     rt: R,
@@ -45,19 +57,9 @@ pub fn run<R: Wait + Threads + Sync + Copy + Drop>(
 ) -> Result<(u64, Option<u64>), anyhow::Error> {
     let lot = ParkingLot::new(rt, alloc, 3, 1)?; // three threads
     let table = LockTable::new(alloc, &lot, 1)?; // a lock
-    let visits = Mutex::new(
-        &table,
-        Visits {
-            count: 0,
-            last: "nobody",
-        },
-    )?;
+    let visits = Mutex::new(&table, Visits::default())?;
     let (one, two, mut me) = (lot.thread_data()?, lot.thread_data()?, lot.thread_data()?);
-    let (_, _) = thread::join(
-        &rt,
-        || visit(&visits, "ann", 300, one),
-        || visit(&visits, "ben", 200, two),
-    );
+    both(&rt, &visits, one, two);
     let beside = count_beside(&visits, &mut me);
     Ok((visits.into_inner().count, beside)) // the owner needs no lock
 }

@@ -47,6 +47,15 @@ fn third_refused<R: Wait>(canvas: &Canvas<'_, '_, R>, me: &mut ThreadData) -> bo
     !line(canvas, me)
 }
 
+/// Two threads draw beside each other, and answer how many squares were drawn alone.
+fn both<R>(rt: &R, canvas: &Canvas<'_, '_, R>, one: ThreadData, two: ThreadData) -> u64
+where
+    R: Wait + Threads + Sync,
+{
+    let (here, there) = thread::join(rt, || draw(canvas, one), || draw(canvas, two));
+    here.wrapping_add(there)
+}
+
 /// How many squares two threads drew alone, whether a third hold is refused, and how many lines there are.
 pub fn run<R: Wait + Threads + Sync + Copy + Drop>(
     rt: R,
@@ -56,11 +65,7 @@ pub fn run<R: Wait + Threads + Sync + Copy + Drop>(
     let table = LockTable::new(alloc, &lot, 2)?;
     let canvas: Canvas<'_, '_, R> = ReentrantMutex::new(&table, 2, AtomicU64::new(0))?; // at most two holds at a time
     let (one, two, mut me) = (lot.thread_data()?, lot.thread_data()?, lot.thread_data()?);
-    let (here, there) = thread::join(&rt, || draw(&canvas, one), || draw(&canvas, two));
+    let alone = both(&rt, &canvas, one, two);
     let refused = third_refused(&canvas, &mut me);
-    Ok((
-        here.wrapping_add(there),
-        refused,
-        canvas.into_inner().into_inner(),
-    ))
+    Ok((alone, refused, canvas.into_inner().into_inner()))
 }

@@ -1,7 +1,7 @@
 //! Guards of a part of a value.
 //!
-//! `First`, `Second` and `Inside` are ready projections; `Then` puts two behind each other. Under `Inside` the part may be
-//! missing, so `try_map` answers a `Result`.
+//! `First`, `Second`, `Inside` and `At` are ready projections; `Then` puts two behind each other. Under `Inside` and `At`
+//! the part may be missing, so `try_map` answers a `Result`.
 
 use parking_lot::{First, Guard, Inside, LockTable, Mutex, ParkingLot, Second, ThreadData};
 use std::alloc::Global;
@@ -42,7 +42,7 @@ fn letters<R: Wait>(badge: &Badge<'_, '_, R>, me: &mut ThreadData) -> Option<usi
     }
 }
 
-/// A player's points, the badge before the last, and how many letters another badge has, first missing and then there.
+/// A player's points, the badge before the last one, and how many letters it has.
 pub fn run<R: Wait + Drop>(
     rt: R,
     alloc: Global,

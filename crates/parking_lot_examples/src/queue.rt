@@ -99,6 +99,18 @@ fn both<R: Wait + Threads + Sync>(
     (a.0.wrapping_add(b.0), a.1.wrapping_add(b.1))
 }
 
+/// One thread fills the queue, and two work: how many tasks it put in, and what these took.
+fn all<R>(
+    rt: &R,
+    queue: &Queue<'_, '_, R>,
+    (one, two, three): (ThreadData, ThreadData, ThreadData),
+) -> (u64, (u64, u64))
+where
+    R: Wait + Threads + Sync,
+{
+    thread::join(rt, || fill(queue, one), || both(rt, queue, two, three))
+}
+
 /// How many tasks were put in and taken, and the sum of those that were taken.
 pub fn run<R: Wait + Threads + Sync + Copy + Drop>(
     rt: R,
@@ -108,10 +120,6 @@ pub fn run<R: Wait + Threads + Sync + Copy + Drop>(
     let table = LockTable::new(alloc, &lot, 2)?; // a mutex and a condition variable
     let queue = Queue::over(&table, alloc)?;
     let (one, two, three) = (lot.thread_data()?, lot.thread_data()?, lot.thread_data()?);
-    let (put, (taken, sum)) = thread::join(
-        &rt,
-        || fill(&queue, one),
-        || both(&rt, &queue, two, three),
-    );
+    let (put, (taken, sum)) = all(&rt, &queue, (one, two, three));
     Ok((put, taken, sum))
 }

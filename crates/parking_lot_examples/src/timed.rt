@@ -42,6 +42,18 @@ fn print_beside<R: Wait + Clock>(
     print_within(rt, printer, Duration::from_millis(5), me)
 }
 
+/// Two threads print beside each other.
+fn both<R>(rt: &R, printer: &Printer<'_, '_, R>, one: ThreadData, two: ThreadData)
+where
+    R: Wait + Clock + Threads + Sync,
+{
+    let (_, _) = thread::join(
+        rt,
+        || print_all(rt, printer, one),
+        || print_all(rt, printer, two),
+    );
+}
+
 /// How many pages two threads printed, and whether one more was printed while the printer was in use, and once it was
 /// free.
 pub fn run<R>(rt: R, alloc: Global) -> Result<(u64, bool, bool), anyhow::Error>
@@ -52,11 +64,7 @@ where
     let table = LockTable::new(alloc, &lot, 1)?;
     let printer: Printer<'_, '_, R> = Mutex::new(&table, 0)?;
     let (one, two, mut me) = (lot.thread_data()?, lot.thread_data()?, lot.thread_data()?);
-    let (_, _) = thread::join(
-        &rt,
-        || print_all(&rt, &printer, one),
-        || print_all(&rt, &printer, two),
-    );
+    both(&rt, &printer, one, two);
     let used = print_beside(&rt, &printer, &mut me);
     let free = print_within(&rt, &printer, Duration::from_millis(5), &mut me);
     Ok((printer.into_inner(), used, free))
