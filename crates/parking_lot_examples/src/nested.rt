@@ -41,7 +41,10 @@ fn draw<R: Wait>(canvas: &Canvas<'_, '_, R>, mut me: ThreadData) -> u64 {
 
 /// Whether a third hold is refused beside two.
 fn third_refused<R: Wait>(canvas: &Canvas<'_, '_, R>, me: &mut ThreadData) -> bool {
-    let (Ok(_first), Ok(_second)) = (canvas.lock(me), canvas.lock(me)) else {
+    let Ok(_first) = canvas.lock(me) else {
+        return false
+    };
+    let Ok(_second) = canvas.lock(me) else {
         return false
     };
     !line(canvas, me)

@@ -38,15 +38,30 @@ fn end<R: Wait>(sale: Sale<'_, '_, R>) -> u64 {
     })
 }
 
+/// Begins a sale, and ends it. Answers how often the seat was sold by now, and 0 where no sale began.
+fn sell<R: Wait>(seat: &Seat<'_, '_, R>, times: u64, me: &mut ThreadData) -> u64 {
+    match begin(seat, times, me) {
+        Some(sale) => end(sale),
+        None => 0,
+    }
+}
+
+/// Whether a try is refused while a customer thinks it over, who buys nothing.
+fn refused_beside<R: Wait>(seat: &Seat<'_, '_, R>, me: &mut ThreadData) -> bool {
+    let Some(_sale) = begin(seat, 1, me) else {
+        return false
+    };
+    seat.try_lock().is_none()
+}
+
 /// Whether a seat can't be had beside a sale, how often it was sold in two, and whether it is locked at last.
 pub fn run<R: Wait + Drop>(rt: R, alloc: Global) -> Result<(bool, u64, bool), anyhow::Error> {
     let lot = ParkingLot::new(rt, alloc, 1, 6)?;
     let table = LockTable::new(alloc, &lot, 1)?;
     let mut me = lot.thread_data()?;
     let seat = Arc::new(alloc, Mutex::new(&table, 0)?)?;
-    let first = begin(&seat, 1, &mut me);
-    let refused = seat.try_lock().is_none();
-    let _ = first.map(end);
-    let sold = begin(&seat, 2, &mut me).map(end);
-    Ok((refused, sold.unwrap_or(0), seat.is_locked()))
+    let refused = refused_beside(&seat, &mut me);
+    let _ = sell(&seat, 1, &mut me);
+    let sold = sell(&seat, 2, &mut me);
+    Ok((refused, sold, seat.is_locked()))
 }
