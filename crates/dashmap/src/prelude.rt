@@ -23,7 +23,7 @@ pub use dashmap_record::{Caller, GatherFault, RecordFault, gather};
 pub use dashmap_table::{MapFault, NoMemory};
 pub use dashmap_view::parallel::ParallelView;
 pub use dashmap_view::{Displaced, PlainView};
-pub use lock_api_guards::{First, Inside, Second};
+pub use lock_api_guards::{At, First, Inside, Second};
 pub use lock_api_raw::{Projection, TableFull, Then, TotalProjection, WaitFault};
 pub use parking_lot_core::{LotFault, ParkingLot, SizeFault, ThreadData};
 pub use parking_lot_rwlock::LockTable;

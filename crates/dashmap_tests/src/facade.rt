@@ -95,6 +95,7 @@ pub fn answers(
     _found: &TryResult<u64>,
     _kept: &SharedValue<u64>,
     _parts: &Then<Inside, First>,
+    _element: &At,
 ) {}
 
 /// How many empty maps of eight shards a table has rows left for, of three at most.

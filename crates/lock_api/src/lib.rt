@@ -31,7 +31,7 @@ pub use condvar::Condvar;
 pub use lock_api_desk::{
     Desk, DeskCall, DeskFault, DeskRunFault, Mode, PackedWord, RawState, TokenTable,
 };
-pub use lock_api_guards::{ArcGuard, First, Guard, Inside, Mapped, Second};
+pub use lock_api_guards::{ArcGuard, At, First, Guard, Inside, Mapped, Second};
 pub use lock_api_raw::{
     GetThreadId, GuardNoSend, GuardSend, MakeCondvar, MakeLock, NoMemory, Projection, RawCondvar,
     RawCondvarTimed, RawMutex, RawMutexFair, RawMutexTimed, RawRwLock, RawRwLockDowngrade,

@@ -1,3 +1,4 @@
+pub mod Elements
 pub mod Holds
 pub mod Narrowing
 pub mod Parts

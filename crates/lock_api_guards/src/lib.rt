@@ -26,4 +26,4 @@ pub use held::{
 pub use lend::{Lender, LenderMut};
 pub use lock::{HasValue, HasValueMut, lent, lent_mut};
 pub use mapped::Mapped;
-pub use parts::{First, Inside, Second};
+pub use parts::{At, First, Inside, Second};

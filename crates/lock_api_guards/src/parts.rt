@@ -1,7 +1,8 @@
-//! Projections that programs need most: to a half of a pair, and into an option.
+//! Projections that programs need most: to a half of a pair, into an option, and to one of many.
 ghost use Rattle.std.specs.Prelude.{◌≡◌, ℕ, Some};
 
 use lock_api_raw::{Projection, TotalProjection};
+use std::alloc::Allocator;
 
 /// To the first of two. Every pair has it.
 ///
@@ -112,4 +113,41 @@ impl<A: Drop> Projection<Option<A>> for Inside {
     }
 
     ghost laws = { λ by. inside_is_way };
+}
+
+/// To the element of a list at an index, from 0. It is missing where the list is no longer than that.
+///
+/// ```text
+/// match MutexGuard::try_map(lock.lock(me), At(1)) {
+///     Ok(second) => { /* of a lock of [4, 5, 6]: 5 */ }
+///     Err(guard) => { /* of a lock of [4], whose guard comes back */ }
+/// }
+/// ```
+#[derive(Drop)]
+pub struct At(pub usize);
+
+impl<T: Drop, A: Allocator> Projection<Vec<T, A>> for At {
+    type Out = T;
+
+    ghost use Rattle.std.specs.Prelude.{slice_get};
+    ghost use Rattle.std.specs.Vec.{with_item};
+    ghost use Rattle.lock_api_guards.specs.Elements.{item_is_way};
+
+    ghost focus = { λ by whole. slice_get whole.items by.0 };
+
+    ghost with_focus = { λ by whole part. with_item whole by.0 part };
+
+    fn get<'a>(&'a self, whole: &'a Vec<T, A>) -> Option<&'a T> {
+        whole.get(self.0)
+    }
+
+    fn get_mut<'a>(whole: &'a mut Vec<T, A>, by: &'a At) -> Option<&'a mut T> {
+        whole.get_mut(by.0)
+    }
+
+    fn part_mut<'a>(whole: &'a mut Vec<T, A>, by: &'a At) -> &'a mut T {
+        &mut whole[by.0]
+    }
+
+    ghost laws = { λ by. item_is_way by.0 };
 }

@@ -23,7 +23,7 @@
 mod names;
 
 pub use lock_api::{
-    First, Guard, Inside, Mapped, NoMemory, Projection, ReadersFull, Second, TableFull, Then,
+    At, First, Guard, Inside, Mapped, NoMemory, Projection, ReadersFull, Second, TableFull, Then,
     TotalProjection, WaitFault, WaitTimeoutResult,
 };
 pub use names::{

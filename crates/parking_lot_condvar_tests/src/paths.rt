@@ -1,7 +1,7 @@
 //! Each name of `parking_lot` that no other test says is named here: types in signatures, the rest by its path.
 
 pub use parking_lot::{
-    Act, ActResult, CoreAnswer, Inside, LockAnswer, LockCall, LockKind, LotFault, Mapped,
+    Act, ActResult, At, CoreAnswer, Inside, LockAnswer, LockCall, LockKind, LotFault, Mapped,
     MutexCore, NoMemory, NotifyAct, NotifyCore, NotifySeen, OnceCore, OwnMode, Projection,
     ReadersFull, Row, RwCore, Second, SectionAct, SizeFault, TableFull, Then, TimedAct,
     TimedMutexCore, TimedRwCore, TimedSeen, TotalProjection, UpgradeCore, WaitAct, WaitAnswer,

@@ -1,8 +1,9 @@
-//! Projections to the first of two fields and to the inside of an option.
+//! Projections to the first of two fields, to the inside of an option and to an element of a list.
 
 use crate::steps::all_right;
-use lock_api::{First, Inside};
+use lock_api::{At, First, Inside};
 use lock_api_raw::{Projection, Then, TotalProjection};
+use std::test::Fail;
 
 #[test]
 fn a_field_is_read_and_written(rt: HostRuntime) {
@@ -25,6 +26,16 @@ fn the_inside_of_an_option_may_be_missing(rt: HostRuntime) {
     let mut one = Some(1u64);
     let set = Inside.set(&mut one, 5) == Some(1);
     all_right(&rt, &[missing, unset, none == None, set, one == Some(5)]);
+}
+
+#[test]
+fn an_element_of_a_list_may_be_missing(rt: HostRuntime) -> Result<(), Fail> {
+    let mut list = vec![in rt.alloc(); 4u64, 5, 6]?;
+    let got = At(2).get(&list).copied() == Some(6);
+    let set = At(1).set(&mut list, 9) == Some(5);
+    let unset = At(3).set(&mut list, 7) == None;
+    all_right(&rt, &[got, set, unset, list.as_slice() == [4, 9, 6].as_slice()]);
+    Ok(())
 }
 
 #[test]
