@@ -27,8 +27,15 @@ module _ {X : Type 0} where
 module _ {X Z : Type 0} where
   -- a `Vec` with other elements, as many
   abbrev with_list : (v : Vec X Z) (xs : List X) → v.len ≡ length xs → Vec X Z
-  with_list v xs many = record { ptr = v.ptr; len = v.len; cap = v.cap; alloc = v.alloc; items = xs;
-    ok = (many, v.ok.1); small = v.small }
+  with_list v xs many = record {
+    ptr = v.ptr;
+    len = v.len;
+    cap = v.cap;
+    alloc = v.alloc;
+    items = xs;
+    ok = (many, v.ok.1);
+    small = v.small;
+  }
 
   -- which proof of the length it has makes no difference
   same_list : (v : Vec X Z) {xs ys : List X} → xs ≡ ys → (p : v.len ≡ length xs) (q : v.len ≡ length ys)

@@ -34,7 +34,10 @@ fn an_element_of_a_list_may_be_missing(rt: HostRuntime) -> Result<(), Fail> {
     let got = At(2).get(&list).copied() == Some(6);
     let set = At(1).set(&mut list, 9) == Some(5);
     let unset = At(3).set(&mut list, 7) == None;
-    all_right(&rt, &[got, set, unset, list.as_slice() == [4, 9, 6].as_slice()]);
+    all_right(
+        &rt,
+        &[got, set, unset, list.as_slice() == [4, 9, 6].as_slice()],
+    );
     Ok(())
 }
 
