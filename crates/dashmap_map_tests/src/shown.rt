@@ -74,41 +74,68 @@ fn text_of_item<R: Wait + Drop>(
     }
 }
 
+/// Whether a guard that reads key 1 is shown, and the value that it lends.
+fn shows_reader<R: Wait + Drop>(
+    map: &Spun<u64, u64, R>,
+    alloc: Global,
+) -> Result<bool, AllocError> {
+    match text_of_reader(map, alloc)? {
+        Some((guard, value)) => Ok(guard.as_str() == "Ref { k: 1, v: 2 }" && value.as_str() == "2"),
+        None => Ok(false),
+    }
+}
+
+/// Whether there is that text.
+fn is_text(text: Option<String>, wanted: &str) -> bool {
+    match text {
+        Some(text) => text.as_str() == wanted,
+        None => false,
+    }
+}
+
 #[test]
 fn guards_and_items_are_shown(rt: HostRuntime) -> Result<(), Fail> {
     let map: Spun<u64, u64, HostRuntime> = map_of(rt, rt.alloc(), 2)?;
-    let mut right = map.insert(1, 2, &mut 1) == Ok(None);
-    let (reader, value) = text_of_reader(&map, rt.alloc())?.ok_or("gone")?;
-    right &= reader.as_str() == "Ref { k: 1, v: 2 }" && value.as_str() == "2";
-    let writer = text_of_writer(&map, rt.alloc())?.ok_or("gone")?;
-    right &= writer.as_str() == "RefMut { k: 1, v: 2 }";
-    let text = text_of_item(&map, rt.alloc())?.ok_or("no item")?;
-    assert!(rt; right && text.as_str() == "RefMutMulti { k: 1, v: 2 }");
+    let mut right = map.insert(1, 2, &mut 1) == Ok(None) && shows_reader(&map, rt.alloc())?;
+    right &= is_text(text_of_writer(&map, rt.alloc())?, "RefMut { k: 1, v: 2 }");
+    right &= is_text(
+        text_of_item(&map, rt.alloc())?,
+        "RefMutMulti { k: 1, v: 2 }",
+    );
+    assert!(rt; right);
     Ok(())
+}
+
+/// Whether a map takes ten pairs of four keys, and keeps the last ones.
+fn takes_many<R: Wait + Drop>(map: &mut Spun<u64, u64, R>) -> bool {
+    let mut right = map.extend((0..10u64).map(|i| (i % 4, i))).is_ok();
+    right &= make(map, Call::Len, &mut 1) == Answer::Number(4);
+    right & (make(map, Call::Key(Keyed::View(1)), &mut 1) == Answer::Number(9))
+}
+
+/// A map of ten pairs, for so many threads at once.
+fn made_of_ten<R: Drop + Copy>(
+    rt: R,
+    alloc: Global,
+    parallelism: usize,
+) -> Result<Spun<u64, u64, R>, MapFault> {
+    DashMap::from_iter(
+        alloc,
+        (0..10u64).map(|i| (i, i)),
+        SpreadState,
+        parallelism,
+        rt,
+    )
 }
 
 #[test]
 fn many_pairs_are_put_in(rt: HostRuntime) -> Result<(), Fail> {
     let mut map: Spun<u64, u64, HostRuntime> = map_of(rt, rt.alloc(), 4)?;
-    let mut right = map.extend((0..10u64).map(|i| (i % 4, i))).is_ok();
-    right &= make(&map, Call::Len, &mut 1) == Answer::Number(4);
-    right &= make(&map, Call::Key(Keyed::View(1)), &mut 1) == Answer::Number(9);
-    let made: Result<Spun<u64, u64, HostRuntime>, MapFault> = DashMap::from_iter(
-        rt.alloc(),
-        (0..10u64).map(|i| (i, i)),
-        SpreadState,
-        1,
-        rt,
-    );
-    right &= make(&made?, Call::Len, &mut 1) == Answer::Number(10);
-    let made: Result<Spun<u64, u64, HostRuntime>, MapFault> = DashMap::from_iter(
-        rt.alloc(),
-        (0..10u64).map(|i| (i, i)),
-        SpreadState,
-        16_385,
-        rt,
-    );
-    assert!(rt; right && made.err() == Some(MapFault::BadShards));
+    assert!(rt; takes_many(&mut map));
+    let made = made_of_ten(rt, rt.alloc(), 1)?;
+    assert!(rt; make(&made, Call::Len, &mut 1) == Answer::Number(10));
+    let refused = made_of_ten(rt, rt.alloc(), 16_385).err();
+    assert!(rt; refused == Some(MapFault::BadShards));
     Ok(())
 }
 

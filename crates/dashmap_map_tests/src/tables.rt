@@ -5,7 +5,7 @@ use dashmap_calls::{Call, Numbers, make, run};
 use dashmap_map::DashMap;
 use dashmap_table::{MapFault, SpreadState};
 use lock_api_spin::PackedLock;
-use parking_lot_core::ParkingLot;
+use parking_lot_core::{ParkingLot, ThreadData};
 use parking_lot_rwlock::LockTable;
 use refusing_heap::{Refusal, RefusingHeap, each_growth};
 use std::alloc::Global;
@@ -75,6 +75,30 @@ fn run_again<R: Wait + Copy + Drop>(
 /// How many growths a table may ask for.
 const MOST: u64 = 500;
 
+/// Makes the calls of a table on an empty map whose waiters park.
+fn check_parked<R: Wait + Copy + Drop>(
+    rt: R,
+    alloc: Global,
+    shards: usize,
+    rows: &[Row],
+) -> Result<(), Fail> {
+    let lot = ParkingLot::new(rt, alloc, 1, 7)?;
+    let table = LockTable::new(alloc, &lot, shards)?;
+    let mut me = lot.thread_data()?;
+    check_rows(alloc, &table, shards, rows, &mut me)
+}
+
+/// Makes them on one whose locks are rows of a table of locks.
+fn check_rows<R: Wait + Drop>(
+    alloc: Global,
+    table: &LockTable<'_, R, Global>,
+    shards: usize,
+    rows: &[Row],
+    me: &mut ThreadData,
+) -> Result<(), Fail> {
+    run(&parked(alloc, table, shards)?, rows, me)
+}
+
 /// Makes the calls of a table on an empty map over each kind of lock, and with each growth refused in turn. Where an
 /// answer is another, it fails with the row.
 pub fn check<R: Wait + Copy + Drop>(
@@ -84,10 +108,7 @@ pub fn check<R: Wait + Copy + Drop>(
     rows: &[Row],
 ) -> Result<(), Fail> {
     run(&map_of(rt, alloc, shards)?, rows, &mut 1)?;
-    let lot = ParkingLot::new(rt, alloc, 1, 7)?;
-    let table = LockTable::new(alloc, &lot, shards)?;
-    let mut me = lot.thread_data()?;
-    run(&parked(alloc, &table, shards)?, rows, &mut me)?;
+    check_parked(rt, alloc, shards, rows)?;
     each_growth(alloc, Refusal::Once(1), MOST, |heap| {
         run_again(rt, heap, shards, rows)
     })?;

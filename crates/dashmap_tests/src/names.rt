@@ -1,7 +1,6 @@
 //! Keys and values that are texts.
 
 use dashmap_iter::LendingWalks;
-use dashmap_iter::multiple_mut::RefMutMulti;
 use dashmap_iter::shard_guards::Looks;
 use dashmap_iter::walks::Walks;
 use dashmap_map::DashMap;
@@ -37,17 +36,36 @@ fn a_closure_looks_at_a_text(rt: HostRuntime) -> Result<(), Fail> {
     Ok(())
 }
 
+/// Puts three names in, and says whether they are new.
+fn are_put<R: Wait + Drop>(map: &Named<R>) -> bool {
+    let names = [("Albin", 15), ("Jones", 22), ("Charlie", 27)];
+    let mut right = true;
+    for (name, age) in names {
+        right &= map.insert(name, age, &mut 1) == Ok(None);
+    }
+    right
+}
+
+/// Whether those stay that are older than 20.
+fn are_kept<R: Wait + Drop>(map: &Named<R>) -> bool {
+    map.retain(|_, age| *age > 20, &mut 1);
+    map.len(&mut 1) == 2 && !map.contains_key(&"Albin", &mut 1)
+}
+
+/// Whether these are a year older then, as they are taken out.
+fn are_older<R: Wait + Drop>(map: &Named<R>) -> bool {
+    map.alter_all(|_, age| age.wrapping_add(1), &mut 1);
+    let mut right = true;
+    for (name, age) in [("Jones", 23), ("Charlie", 28)] {
+        right &= map.remove(&name, &mut 1) == Some((name, age));
+    }
+    right
+}
+
 #[test]
 fn walks_change_what_names_have(rt: HostRuntime) -> Result<(), Fail> {
     let map: Named<HostRuntime> = four(rt, rt.alloc())?;
-    let mut right = map.insert("Albin", 15, &mut 1) == Ok(None);
-    right &= map.insert("Jones", 22, &mut 1) == Ok(None);
-    right &= map.insert("Charlie", 27, &mut 1) == Ok(None);
-    map.retain(|_, age| *age > 20, &mut 1);
-    right &= map.len(&mut 1) == 2 && !map.contains_key(&"Albin", &mut 1);
-    map.alter_all(|_, age| age.wrapping_add(1), &mut 1);
-    right &= map.remove(&"Jones", &mut 1) == Some(("Jones", 23));
-    assert!(rt; right && map.remove(&"Charlie", &mut 1) == Some(("Charlie", 28)));
+    assert!(rt; are_put(&map) && are_kept(&map) && are_older(&map));
     Ok(())
 }
 
@@ -72,29 +90,23 @@ fn items<R: Wait + Drop>(map: &Named<R>) -> u64 {
     count
 }
 
-/// A pair that a writing walk lends.
-type Lent<'w, 'm, 'd, R> = RefMutMulti<'w, 'm, 'd, &'static str, u64, PackedLock<R>>;
-
-/// Counts a pair up, and answers it as it was, if what was written is lent next.
-fn counted<R: Wait + Drop>(pair: Lent<'_, '_, '_, R>) -> Option<(&'static str, u64)> {
-    let mut pair = pair;
-    let was = *pair.value();
-    *pair.value_mut() = was.wrapping_add(1);
-    if *pair == was.wrapping_add(1) {
-        Some((*pair.key(), was))
-    } else {
-        None
-    }
+/// Counts up, and answers what it was.
+fn raised(value: &mut u64) -> u64 {
+    let was = *value;
+    *value = was.wrapping_add(1);
+    was
 }
 
-/// Counts up the pairs that a writing walk lends, and answers the last one as it was.
+/// Counts up the pairs that a writing walk lends, and answers the last one as it was, if each lends what was written.
 fn counted_up<R: Wait + Drop>(map: &Named<R>) -> Option<(&'static str, u64)> {
     let mut me = 1;
     let mut walk = map._iter_mut(&mut me);
     let mut last = None;
     for _ in 0..3 {
-        if let Some(pair) = walk.next_mut() {
-            last = counted(pair);
+        if let Some(mut pair) = walk.next_mut() {
+            let was = raised(pair.value_mut());
+            let (key, value) = (*pair.key(), *pair.value());
+            last = (value == was.wrapping_add(1)).then_some((key, was));
         }
     }
     last

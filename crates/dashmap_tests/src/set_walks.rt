@@ -31,14 +31,21 @@ fn kept_item<R: Wait + Drop>(
     Ok(if is_over { Some((*item, text)) } else { None })
 }
 
+/// Whether the set of 5 is printed so, also while an item of it is kept.
+fn shows_five<R: Wait + Drop>(set: &Spun<u64, R>, alloc: Global) -> Result<bool, AllocError> {
+    let is_shown = text_of(set, alloc)?.as_str() == "{5: ()}";
+    match kept_item(set, alloc)? {
+        Some((key, text)) => Ok(is_shown && key == 5 && text.as_str() == "{5: ()}"),
+        None => Ok(false),
+    }
+}
+
 #[test]
 fn an_item_keeps_the_hold_of_its_shard(rt: HostRuntime) -> Result<(), Fail> {
     let mut set: Spun<u64, HostRuntime> = set_of(rt, rt.alloc())?;
     let mut right = set.insert_mut(5) == Ok(true);
-    right &= text_of(&set, rt.alloc())?.as_str() == "{5: ()}";
-    let (key, text) = kept_item(&set, rt.alloc())?.ok_or("no item")?;
-    assert!(rt; right && key == 5 && text.as_str() == "{5: ()}");
-    assert!(rt; make(&set, Call::Remove(5), &mut 1) == Answer::Number(5));
+    right &= shows_five(&set, rt.alloc())?;
+    assert!(rt; right && make(&set, Call::Remove(5), &mut 1) == Answer::Number(5));
     Ok(())
 }
 

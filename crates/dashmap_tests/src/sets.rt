@@ -4,7 +4,7 @@ use dashmap::set::DashSet;
 use dashmap_table::{MapFault, SpreadState};
 use lock_api_raw::RawRwLock;
 use lock_api_spin::PackedLock;
-use parking_lot_core::ParkingLot;
+use parking_lot_core::{ParkingLot, ThreadData};
 use parking_lot_rwlock::LockTable;
 use refusing_heap::{Refusal, RefusingHeap, each_growth};
 use std::alloc::{Allocator, Global};
@@ -287,19 +287,34 @@ fn run_again<R: Wait + Copy + Drop>(
 /// How many growths a table may ask for.
 const MOST: u64 = 500;
 
-/// Makes the calls of a table on an empty set over each kind of lock, and with each growth refused in turn.
-fn check<R: Wait + Copy + Drop>(rt: R, alloc: Global, rows: &[Row]) -> Result<(), Fail> {
-    run(&set_of(rt, alloc)?, rows, &mut 1)?;
-    let lot = ParkingLot::new(rt, alloc, 1, 7)?;
-    let table = LockTable::new(alloc, &lot, 8)?;
-    let mut me = lot.thread_data()?;
-    let made: Result<Parked<'_, '_, R>, MapFault> = DashSet::with_hasher(
+/// Makes the calls of a table on an empty set whose locks are rows of a table of locks.
+fn check_rows<'t, 'l, R: Wait + Copy + Drop>(
+    alloc: Global,
+    table: &'t LockTable<'l, R>,
+    rows: &[Row],
+    me: &mut ThreadData,
+) -> Result<(), Fail> {
+    let made: Result<Parked<'t, 'l, R>, MapFault> = DashSet::with_hasher(
         alloc,
         SpreadState,
         2,
-        &table,
+        table,
     );
-    run(&made?, rows, &mut me)?;
+    run(&made?, rows, me)
+}
+
+/// Makes them on an empty set whose waiters park.
+fn check_parked<R: Wait + Copy + Drop>(rt: R, alloc: Global, rows: &[Row]) -> Result<(), Fail> {
+    let lot = ParkingLot::new(rt, alloc, 1, 7)?;
+    let table = LockTable::new(alloc, &lot, 8)?;
+    let mut me = lot.thread_data()?;
+    check_rows(alloc, &table, rows, &mut me)
+}
+
+/// Makes the calls of a table on an empty set over each kind of lock, and with each growth refused in turn.
+fn check<R: Wait + Copy + Drop>(rt: R, alloc: Global, rows: &[Row]) -> Result<(), Fail> {
+    run(&set_of(rt, alloc)?, rows, &mut 1)?;
+    check_parked(rt, alloc, rows)?;
     each_growth(
         alloc,
         Refusal::Once(1),
