@@ -69,3 +69,5 @@ impl<E: fmt::Display> fmt::Display for OnceFault<E> {
         }
     }
 }
+
+impl<E: fmt::Debug + fmt::Display + Drop> Error for OnceFault<E> {}
