@@ -10,74 +10,74 @@ use std::random::RandomSource;
 use std::sync::Wait;
 use std::thread::{self, Threads};
 
-/// Accounts with their balances, of which each call is written down.
-type Accounts<'t, 'l, R> = Recorded<'t, 'l, u64, u64, RandomState, R>;
-
 /// A thread's name in the record.
 type Teller = Caller<u64, u64>;
 
-/// Puts 1 on an account if it has what was seen. None where the record had no memory.
-fn pay<R: Wait>(
-    accounts: &Accounts<'_, '_, R>,
-    teller: &mut Teller,
-    me: &mut ThreadData,
-) -> Option<bool> {
-    let seen = accounts.get_copied(&7, teller, me).ok()?.unwrap_or(0);
-    accounts
-        .replace_if(&7, seen, seen.wrapping_add(1), teller, me)
-        .ok()
+/// Accounts with their balances, of which each call is written down.
+#[derive(Drop)]
+struct Bank<'t, 'l, R> {
+    accounts: Recorded<'t, 'l, u64, u64, RandomState, R>,
 }
 
-/// Pays a hundred times, each time until no other teller came between.
-fn pay_all<R: Wait>(
-    accounts: &Accounts<'_, '_, R>,
-    teller: &mut Teller,
-    mut me: ThreadData,
-) -> Option<u64> {
-    let mut paid = 0u64;
-    for _ in 0..10_000 {
-        if paid == 100 {
-            break;
-        }
-        paid = paid.wrapping_add(u64::from(pay(accounts, teller, &mut me)?));
+impl<R: Wait + Threads + Sync> Bank<'_, '_, R> {
+    /// Puts 1 on an account if it has what was seen. None where the record had no memory.
+    fn pay(&self, teller: &mut Teller, me: &mut ThreadData) -> Option<bool> {
+        let seen = self.accounts.get_copied(&7, teller, me).ok()?.unwrap_or(0);
+        let more = seen.wrapping_add(1);
+        self.accounts.replace_if(&7, seen, more, teller, me).ok()
     }
-    Some(paid)
-}
 
-/// Two tellers pay beside each other.
-fn both<R: Wait + Threads + Sync>(
-    rt: &R,
-    accounts: &Accounts<'_, '_, R>,
-    (a, one): (&mut Teller, ThreadData),
-    (b, two): (&mut Teller, ThreadData),
-) {
-    let (_, _) = thread::join(
-        rt,
-        || pay_all(accounts, a, one),
-        || pay_all(accounts, b, two),
-    );
+    /// Pays a hundred times, each time until no other teller came between.
+    fn pay_all(&self, teller: &mut Teller, mut me: ThreadData) -> Option<u64> {
+        let mut paid = 0u64;
+        for _ in 0..10_000 {
+            if paid == 100 {
+                break;
+            }
+            paid = paid.wrapping_add(u64::from(self.pay(teller, &mut me)?));
+        }
+        Some(paid)
+    }
+
+    /// Two tellers pay beside each other.
+    fn both(&self, rt: &R, a: &mut Teller, one: ThreadData, b: &mut Teller, two: ThreadData) {
+        let (_, _) = thread::join(rt, || self.pay_all(a, one), || self.pay_all(b, two));
+    }
+
+    /// The balance that two tellers leave.
+    fn used(&self, rt: &R, a: &mut Teller, b: &mut Teller, lot: &ParkingLot<R>) -> Option<u64> {
+        let mut me = lot.thread_data().ok()?;
+        self.accounts.insert(7, 1000, a, &mut me).ok()?;
+        self.both(rt, a, lot.thread_data().ok()?, b, lot.thread_data().ok()?);
+        self.accounts.get_copied(&7, a, &mut me).ok()?
+    }
+
+    /// How many calls there were, in the one legal history that is found.
+    fn judged(self, alloc: Global, a: Teller, b: Teller, hasher: &RandomState) -> Option<usize> {
+        let mut logs = Vec::new(alloc);
+        logs.push(a.log()).ok()?;
+        logs.push(b.log()).ok()?;
+        let calls = gather(alloc, self.accounts.histories(), logs, hasher).ok()?;
+        Some(calls.len())
+    }
 }
 
 /// The balance that two tellers left, and how many calls there were, of which one legal history was found.
-pub fn run<R>(rt: R, alloc: Global) -> Result<(u64, usize), anyhow::Error>
+pub fn run<R>(rt: R, alloc: Global) -> Result<(Option<u64>, Option<usize>), anyhow::Error>
 where
     R: Wait + Threads + RandomSource + Sync + Copy + Drop,
 {
+    let hasher = RandomState::new(&rt)?;
     let lot = ParkingLot::new(rt, alloc, 3, 5)?;
     let table = table_for(alloc, &lot, 1, 4)?;
-    let hasher = RandomState::new(&rt)?;
     let (accounts, mut tellers) = Recorded::new(alloc, 4, hasher.clone()?, 2, &table)?;
-    let (Some(mut b), Some(mut a)) = (tellers.pop(), tellers.pop()) else {
-        return Ok((0, 0))
+    let bank = Bank { accounts };
+    let Some(mut b) = tellers.pop() else {
+        return Ok((None, None))
     };
-    let (one, two, mut me) = (lot.thread_data()?, lot.thread_data()?, lot.thread_data()?);
-    accounts.insert(7, 1000, &mut a, &mut me)?;
-    both(&rt, &accounts, (&mut a, one), (&mut b, two));
-    let balance = accounts.get_copied(&7, &mut a, &mut me)?;
-
-    let mut logs = Vec::new(alloc);
-    logs.push(a.log())?;
-    logs.push(b.log())?;
-    let calls = gather(alloc, accounts.histories(), logs, &hasher)?;
-    Ok((balance.unwrap_or(0), calls.len()))
+    let Some(mut a) = tellers.pop() else {
+        return Ok((None, None))
+    };
+    let balance = bank.used(&rt, &mut a, &mut b, &lot);
+    Ok((balance, bank.judged(alloc, a, b, &hasher)))
 }

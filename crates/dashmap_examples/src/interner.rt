@@ -25,13 +25,9 @@ impl<R: Wait + Threads + Sync> Interner<'_, '_, R> {
     /// The number of a text; a new one where nobody has asked for it yet.
     fn number(&self, text: &str, me: &mut ThreadData) -> Option<u64> {
         let key = text.to_owned(self.alloc).ok()?;
-        match self.numbers.entry(key, me) {
-            Ok(entry) => {
-                let number = entry.or_insert_with(|| self.next.fetch_add(1, Ordering::SeqCst));
-                Some(*number)
-            }
-            Err(_) => None,
-        }
+        let entry = self.numbers.entry(key, me).ok()?;
+        let number = entry.or_insert_with(|| self.next.fetch_add(1, Ordering::SeqCst));
+        Some(*number)
     }
 
     /// The sum of the numbers of all words, each asked for often.

@@ -30,19 +30,14 @@ impl<R: Wait + Threads + Sync> Registry<'_, '_, R> {
     }
 
     /// Two threads serve beside each other.
-    fn both(&self, rt: &R, one: ThreadData, two: ThreadData) -> u64 {
-        let (one, two) = thread::join(rt, || self.serve("ben", one), || self.serve("eve", two));
-        one.wrapping_add(two)
+    fn both(&self, rt: &R, b: ThreadData, c: ThreadData) -> (u64, u64) {
+        thread::join(rt, || self.serve("ben", b), || self.serve("eve", c))
     }
 
     /// Three threads serve beside each other.
-    fn all(&self, rt: &R, one: ThreadData, two: ThreadData, three: ThreadData) -> u64 {
-        let (one, others) = thread::join(
-            rt,
-            || self.serve("ann", one),
-            || self.both(rt, two, three),
-        );
-        one.wrapping_add(others)
+    fn all(&self, rt: &R, a: ThreadData, b: ThreadData, c: ThreadData) -> u64 {
+        let (ann, (ben, eve)) = thread::join(rt, || self.serve("ann", a), || self.both(rt, b, c));
+        ann.wrapping_add(ben).wrapping_add(eve)
     }
 
     /// Sends a message to each connection, and answers how many it reached.
