@@ -2,7 +2,8 @@
 //!
 //! Beside the types these are the traits that have the maps' calls, so that each method is found: walks (`Walks`,
 //! `LendingWalks`), what an owner can do with nobody beside it (`Plain`, `ExtendShards`), clones, parallel forms, and a
-//! look into the shards (`Looks`).
+//! look into the shards (`Looks`). With them go those names of std that the signatures of such programs say: where memory
+//! comes from, the default hasher, and the bounds on a runtime whose calls may wait, start threads or give a hasher keys.
 
 pub use crate::locks::table_for;
 pub use crate::names::{
@@ -27,3 +28,8 @@ pub use lock_api_guards::{At, First, Inside, Second};
 pub use lock_api_raw::{Projection, TableFull, Then, TotalProjection, WaitFault};
 pub use parking_lot_core::{LotFault, ParkingLot, SizeFault, ThreadData};
 pub use parking_lot_rwlock::LockTable;
+pub use std::alloc::Global;
+pub use std::hash::RandomState;
+pub use std::random::RandomSource;
+pub use std::sync::Wait;
+pub use std::thread::Threads;

@@ -4,11 +4,7 @@
 //! have given each reply; else it names what is wrong.
 
 use dashmap::prelude::*;
-use std::alloc::Global;
-use std::hash::RandomState;
-use std::random::RandomSource;
-use std::sync::Wait;
-use std::thread::{self, Threads};
+use std::thread;
 
 /// A thread's name in the record.
 type Teller = Caller<u64, u64>;

@@ -4,13 +4,9 @@
 //! in other shards go on meanwhile.
 
 use dashmap::prelude::*;
-use std::alloc::Global;
-use std::hash::RandomState;
 use std::ops::Range;
-use std::random::RandomSource;
-use std::sync::Wait;
 use std::sync::atomic::{AtomicU64, Ordering};
-use std::thread::{self, Threads};
+use std::thread;
 
 /// Squares of numbers, each with the time of its last use.
 #[derive(Drop)]

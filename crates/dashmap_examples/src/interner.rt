@@ -3,12 +3,8 @@
 //! A text gets its number under the lock of its shard, so two threads that ask for one text at once get one number.
 
 use dashmap::prelude::*;
-use std::alloc::Global;
-use std::hash::RandomState;
-use std::random::RandomSource;
-use std::sync::Wait;
 use std::sync::atomic::{AtomicU64, Ordering};
-use std::thread::{self, Threads};
+use std::thread;
 
 /// The words that are asked for.
 const WORDS: [&'static str; 4] = ["map", "lock", "shard", "guard"];

@@ -1,11 +1,7 @@
 //! A table of metrics: a worker counts, and another thread reads all counters meanwhile by `iter`.
 
 use dashmap::prelude::*;
-use std::alloc::Global;
-use std::hash::RandomState;
-use std::random::RandomSource;
-use std::sync::Wait;
-use std::thread::{self, Threads};
+use std::thread;
 
 /// Counters by name.
 #[derive(Drop)]

@@ -3,12 +3,8 @@
 //! A walk shares each shard's hold with whoever reads, so what it changes is atomic.
 
 use dashmap::prelude::*;
-use std::alloc::Global;
-use std::hash::RandomState;
-use std::random::RandomSource;
-use std::sync::Wait;
 use std::sync::atomic::{AtomicU64, Ordering};
-use std::thread::{self, Threads};
+use std::thread;
 
 /// Connections by who serves them and their numbers, each with how many messages wait for it.
 #[derive(Drop)]
