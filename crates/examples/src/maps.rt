@@ -1,6 +1,4 @@
-//! Programs with maps. Each module is one by itself: its `run` makes a parking lot, a table and maps, and answers what
-//! came of its calls, whatever the schedule. Here they run one after another, and what they answer is printed.
-#![tactic(auto)]
+//! Programs with maps, over `dashmap::prelude` alone.
 
 mod audit;
 mod cache;
@@ -8,7 +6,8 @@ mod interner;
 mod metrics;
 mod registry;
 
-fn main(rt: HostRuntime) -> Result<(), anyhow::Error> {
+/// What comes of each.
+pub fn run_all(rt: HostRuntime) -> Result<(), anyhow::Error> {
     let (low, high, kept, left) = cache::run(rt, rt.alloc())?;
     println!(rt; "cache: sums {low} and {high}, {kept} kept, {left} left")?;
     let (open, all, some) = registry::run(rt, rt.alloc())?;

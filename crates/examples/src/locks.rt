@@ -1,6 +1,4 @@
-//! Programs with locks. Each module is one by itself: its `run` makes a parking lot, a table and locks, and answers what
-//! came of its calls, whatever the schedule. Here they run one after another, and what they answer is printed.
-#![tactic(auto)]
+//! Programs with locks, over the one crate `parking_lot`.
 
 mod cache;
 mod counter;
@@ -12,7 +10,8 @@ mod sale;
 mod timed;
 mod turns;
 
-fn main(rt: HostRuntime) -> Result<(), anyhow::Error> {
+/// What comes of each.
+pub fn run_all(rt: HostRuntime) -> Result<(), anyhow::Error> {
     let (visits, beside) = counter::run(rt, rt.alloc())?;
     println!(rt; "counter: {visits} visits, a try beside a guard gives {beside:?}")?;
     let (put, taken, sum) = queue::run(rt, rt.alloc())?;
