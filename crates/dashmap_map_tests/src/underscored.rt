@@ -30,7 +30,25 @@ where
     right & map._shrink_to_fit(me).is_ok() & (map._capacity(me) == 0) & (map._shard_count() == 4)
 }
 
-/// Uses the calls that give guards and entries on a map without pairs. It has the pair 7 and 1 afterwards.
+/// Uses the calls that give entries on a map without pairs. It has the pair 7 and 1 afterwards.
+fn uses_entries<S: BuildHasher, Q: RawRwLock, A: Allocator + Clone>(
+    map: &Numbers<S, Q, A>,
+    me: &mut Q::Party,
+) -> bool
+where
+    Q::Runtime: Wait,
+{
+    let is_added = match map._entry(7, me) {
+        Ok(entry) => *entry.or_insert(1) == 1,
+        Err(_) => false,
+    };
+    match map._try_entry(7) {
+        Ok(Some(entry)) => is_added & (entry.into_key() == 7),
+        Ok(None) | Err(_) => false,
+    }
+}
+
+/// Uses the calls that give guards on a map with the pair of 7 alone.
 fn uses_guards<S: BuildHasher, Q: RawRwLock, A: Allocator + Clone>(
     map: &Numbers<S, Q, A>,
     me: &mut Q::Party,
@@ -38,24 +56,15 @@ fn uses_guards<S: BuildHasher, Q: RawRwLock, A: Allocator + Clone>(
 where
     Q::Runtime: Wait,
 {
-    let mut right = match map._entry(7, me) {
-        Ok(entry) => *entry.or_insert(1) == 1,
-        Err(_) => false,
-    };
-    right &= match map._try_entry(7) {
-        Ok(Some(entry)) => entry.into_key() == 7,
-        Ok(None) | Err(_) => false,
-    };
-    right &= map._get(&8, me).is_none();
-    right &= map._get_mut(&7, me).is_some();
-    right &= map._try_get(&7).is_present();
-    right & map._try_get_mut(&8).is_absent()
+    let is_away = map._get(&8, me).is_none() & map._get_mut(&7, me).is_some();
+    is_away & map._try_get(&7).is_present() & map._try_get_mut(&8).is_absent()
 }
 
 #[test]
 fn the_trait_calls_the_map(rt: HostRuntime) -> Result<(), Fail> {
     let map = map_of(rt, rt.alloc(), 4)?;
-    let right = uses_guards(&map, &mut 1) & uses_values(&map, &mut 1);
+    let mut right = uses_entries(&map, &mut 1) & uses_guards(&map, &mut 1);
+    right &= uses_values(&map, &mut 1);
     assert!(rt; right & (map._hasher()? == SpreadState));
     Ok(())
 }

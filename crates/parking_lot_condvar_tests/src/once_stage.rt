@@ -125,9 +125,16 @@ impl<'s, 't, 'l, R: Clock> Scene<'s, 't, 'l, R> {
 fn how_it_ended(answer: Result<(), OnceFault<u8>>) -> Ended {
     match answer {
         Ok(()) => Ended::Well,
-        Err(OnceFault::Failed(5)) => Ended::Failed,
-        Err(OnceFault::Failed(_)) => Ended::Odd,
-        Err(OnceFault::Poisoned) => Ended::Poisoned,
+        Err(fault) => how_it_failed(fault),
+    }
+}
+
+/// How one has ended that wasn't well.
+fn how_it_failed(fault: OnceFault<u8>) -> Ended {
+    match fault {
+        OnceFault::Failed(code) if code == 5 => Ended::Failed,
+        OnceFault::Failed(_) => Ended::Odd,
+        OnceFault::Poisoned => Ended::Poisoned,
     }
 }
 
