@@ -1,10 +1,11 @@
 //! Maps and views that are taken apart in parallel, and the calls of views.
 
-use crate::rows::{EACH, Map, Me, On, Row, Table, are_free, map_of, put};
-use refusing_heap::{Heap, Line, Said, Seen, listed, made};
+use crate::rows::{EACH, Map, Me, On, Row, Rows, Table, map_of, put};
 use dashmap_plain::clones::CloneView;
 use dashmap_plain::{Plain, ReadOnlyView};
 use dashmap_table::{MapFault, NoMemory, SpreadState};
+use lock_api_raw::{MakeLock, RawRwLock};
+use refusing_heap::{Heap, Line, Said, Seen, listed, made};
 use std::sync::Wait;
 use std::thread::Threads;
 
@@ -17,19 +18,32 @@ pub enum Viewed {
     OwnedMapCollect,
 }
 
-type View<'t, 'l, 'h, R> = ReadOnlyView<u64, u64, SpreadState, Row<'t, 'l, R>, &'h Heap>;
+type View<'h, Q> = ReadOnlyView<u64, u64, SpreadState, Q, &'h Heap>;
 
 fn two<'t, 'l, 'h, R: Wait>(
     heap: &'h Heap,
     table: &'t Table<'l, R>,
     me: &mut Me,
-) -> Option<Map<'t, 'l, 'h, R>> {
+) -> Option<Map<'h, Row<'t, 'l, R>>> {
     let map = map_of(heap, table).ok()?;
     put(&map, 2, me);
     Some(map)
 }
 
 /// Collects the keys of a map that goes. It may do with less memory than it asks for first.
+fn collect_owned<Q: RawRwLock + Drop, R: Threads + Sync>(
+    heap: &Heap,
+    rt: &R,
+    map: Map<'_, Q>,
+) -> Said {
+    let walk = Plain::into_par_iter(map);
+    listed(
+        walk.map_collect(rt, heap, |key: u64, _: u64| key),
+        2,
+        NoMemory,
+    )
+}
+
 pub fn collect_all<R: Wait + Threads + Sync + Send>(
     heap: &Heap,
     table: &Table<'_, R>,
@@ -37,27 +51,38 @@ pub fn collect_all<R: Wait + Threads + Sync + Send>(
 ) -> Option<Seen> {
     let map = two(heap, table, me)?;
     let before = heap.asked();
-    let walk = Plain::into_par_iter(map);
-    let list = walk.map_collect(table.lot().runtime(), heap, |key: u64, _: u64| key);
-    let said = listed(list, 2, NoMemory);
-    Seen::of(before, heap.asked(), said.may_fit(heap) && are_free(table))
+    let said = collect_owned(heap, table.lot().runtime(), map);
+    Seen::of(before, heap.asked(), said.may_fit(heap) && table.are_free())
 }
 
-fn ask_view<'t, 'l, R: Wait + Threads + Sync + Send>(
+/// Collects the keys of a view that goes.
+fn collect_view<Q: RawRwLock + Drop, R: Threads + Sync>(
     heap: &Heap,
-    table: &'t Table<'l, R>,
-    view: &View<'t, 'l, '_, R>,
+    rt: &R,
+    view: View<'_, Q>,
+) -> Said {
+    let walk = view.into_par_iter();
+    listed(
+        walk.map_collect(rt, heap, |key: u64, _: u64| key),
+        2,
+        NoMemory,
+    )
+}
+
+fn ask_view<Q: RawRwLock + MakeLock<T> + Drop, T: Copy + Drop, R: Threads + Sync>(
+    heap: &Heap,
+    table: T,
+    rt: &R,
+    view: &View<'_, Q>,
     call: Viewed,
 ) -> Option<Seen> {
-    let rt = table.lot().runtime();
     let before = heap.asked();
     let said = match call {
         Viewed::Clone => made(CloneView::clone(view, table), MapFault::NoMemory),
         Viewed::PlainClone => made(view.plain().clone(), NoMemory),
         _ => {
-            let list = view
-                .par_iter()
-                .map_collect(rt, heap, |key: &u64, _: &u64| *key);
+            let walk = view.par_iter();
+            let list = walk.map_collect(rt, heap, |key: &u64, _: &u64| *key);
             listed(list, 2, NoMemory)
         }
     };
@@ -74,17 +99,14 @@ pub fn with_view<R: Wait + Threads + Sync + Send>(
     me: &mut Me,
     call: Viewed,
 ) -> Option<Seen> {
+    let rt = table.lot().runtime();
     let view = two(heap, table, me)?.into_read_only().ok()?;
     if let Viewed::OwnedMapCollect = call {
-        let rt = table.lot().runtime();
         let before = heap.asked();
-        let list = view
-            .into_par_iter()
-            .map_collect(rt, heap, |key: u64, _: u64| key);
-        let said = listed(list, 2, NoMemory);
+        let said = collect_view(heap, rt, view);
         return Seen::of(before, heap.asked(), said.may_fit(heap));
     }
-    ask_view(heap, table, &view, call)
+    ask_view(heap, table, rt, &view, call)
 }
 
 const COLLECT: On = On::View(Viewed::MapCollect);

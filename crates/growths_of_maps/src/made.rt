@@ -1,15 +1,15 @@
 //! How maps and sets are made, over a table of locks whose rows are counted.
 
 use crate::rows::{On, Row, Table, are_taken, keys, pairs};
-use refusing_heap::{Heap, Line, Said, Seen, made};
 use dashmap::set::DashSet;
 use dashmap_calls::Numbers;
 use dashmap_map::{DashMap, NewFault};
 use dashmap_plain::from_par_iter;
 use dashmap_table::{MapFault, SpreadState};
+use lock_api_raw::{MakeLock, RawRwLock};
+use refusing_heap::{Heap, Line, Said, Seen, made};
 use std::hash::RandomState;
 use std::random::RandomSource;
-use std::sync::Wait;
 
 /// How many rows a map or a set of one thread takes, and one that is asked for as many shards.
 const TAKEN: usize = 4;
@@ -30,116 +30,137 @@ pub enum Make {
     ParIter,
 }
 
-type Map<'t, 'l, 'h, S, R> = Numbers<S, Row<'t, 'l, R>, &'h Heap>;
+type Map<'h, S, Q> = Numbers<S, Q, &'h Heap>;
 
-type Set<'t, 'l, 'h, S, R> = DashSet<u64, S, Row<'t, 'l, R>, &'h Heap>;
+type Set<'h, S, Q> = DashSet<u64, S, Q, &'h Heap>;
+
+type Made<M> = Result<M, MapFault>;
 
 /// Makes a map with its own hasher.
-fn new_map<R: Wait + RandomSource>(heap: &Heap, table: &Table<'_, R>, make: Make) -> Said {
-    let map: Result<Map<'_, '_, '_, RandomState, R>, NewFault> = match make {
+fn new_map<'h, Q: RawRwLock + MakeLock<T> + Drop, T: Copy + Drop>(
+    heap: &'h Heap,
+    table: T,
+    make: Make,
+) -> Result<Map<'h, RandomState, Q>, NewFault>
+where
+    Q::Runtime: RandomSource,
+{
+    match make {
         Make::New => DashMap::new(heap, 1, table),
         Make::WithCapacity => DashMap::with_capacity(heap, 100, 1, table),
         Make::WithShards => DashMap::with_shard_amount(heap, TAKEN, table),
         _ => DashMap::with_capacity_and_shard_amount(heap, 100, TAKEN, table),
-    };
-    made(map, NewFault::Map(MapFault::NoMemory))
+    }
 }
 
 /// Makes an empty map with this hasher.
-fn map_by<R: Wait>(heap: &Heap, table: &Table<'_, R>, make: Make, by: SpreadState) -> Said {
-    let map: Result<Map<'_, '_, '_, SpreadState, R>, MapFault> = match make {
+fn map_by<'h, Q: RawRwLock + MakeLock<T> + Drop, T: Copy + Drop>(
+    heap: &'h Heap,
+    table: T,
+    make: Make,
+) -> Made<Map<'h, SpreadState, Q>> {
+    let by = SpreadState;
+    match make {
         Make::By => DashMap::with_hasher(heap, by, 1, table),
         Make::ByCapacity => DashMap::with_capacity_and_hasher(heap, 100, by, 1, table),
-        Make::ByShards => { DashMap::with_hasher_and_shard_amount(heap, by, TAKEN, table) }
+        Make::ByShards => DashMap::with_hasher_and_shard_amount(heap, by, TAKEN, table),
         Make::ByBoth => {
             DashMap::with_capacity_and_hasher_and_shard_amount(heap, 100, by, TAKEN, table)
         }
         _ => DashMap::default(heap, by, 1, table),
-    };
-    made(map, MapFault::NoMemory)
+    }
 }
 
-fn map_of<'h, R: Wait>(
+fn map_of<'h, Q: RawRwLock + MakeLock<T> + Drop, T: Copy + Drop>(
     heap: &'h Heap,
-    table: &Table<'_, R>,
+    table: T,
     make: Make,
     pairs: Vec<(u64, u64), &'h Heap>,
-) -> Said {
-    let map: Result<Map<'_, '_, '_, SpreadState, R>, MapFault> = match make {
+) -> Made<Map<'h, SpreadState, Q>> {
+    match make {
         Make::Iter => DashMap::from_iter(heap, pairs.into_iter(), SpreadState, 1, table),
         _ => from_par_iter(heap, pairs, SpreadState, 1, table),
-    };
-    made(map, MapFault::NoMemory)
+    }
 }
 
 /// Makes a map. The rows that it took stay used, of a refused one too.
-pub fn make_map<R: Wait + RandomSource>(
-    heap: &Heap,
-    table: &Table<'_, R>,
-    make: Make,
-) -> Option<Seen> {
-    if let Make::Iter | Make::ParIter = make {
-        let pairs = pairs(heap)?;
-        let before = heap.asked();
-        let said = map_of(heap, table, make, pairs);
-        return said.seen(heap, before, are_taken(table, TAKEN));
-    }
+pub fn make_map<R: RandomSource>(heap: &Heap, table: &Table<'_, R>, make: Make) -> Option<Seen> {
+    let pairs = pairs(heap)?;
     let before = heap.asked();
     let said = match make {
-        Make::New | Make::WithCapacity | Make::WithShards | Make::WithBoth => new_map(
-            heap, table, make,
-        ),
-        _ => map_by(heap, table, make, SpreadState),
+        Make::New | Make::WithCapacity | Make::WithShards | Make::WithBoth => {
+            let map: Result<Map<'_, RandomState, Row<'_, '_, R>>, NewFault> = new_map(
+                heap, table, make,
+            );
+            made(map, NewFault::Map(MapFault::NoMemory))
+        }
+        _ => {
+            let map: Made<Map<'_, SpreadState, Row<'_, '_, R>>> = match make {
+                Make::Iter | Make::ParIter => map_of(heap, table, make, pairs),
+                _ => map_by(heap, table, make),
+            };
+            made(map, MapFault::NoMemory)
+        }
     };
     said.seen(heap, before, are_taken(table, TAKEN))
 }
 
-fn new_set<R: Wait + RandomSource>(heap: &Heap, table: &Table<'_, R>, make: Make) -> Said {
-    let set: Result<Set<'_, '_, '_, RandomState, R>, NewFault> = match make {
+fn new_set<'h, Q: RawRwLock + MakeLock<T> + Drop, T: Copy + Drop>(
+    heap: &'h Heap,
+    table: T,
+    make: Make,
+) -> Result<Set<'h, RandomState, Q>, NewFault>
+where
+    Q::Runtime: RandomSource,
+{
+    match make {
         Make::New => DashSet::new(heap, 1, table),
         _ => DashSet::with_capacity(heap, 100, 1, table),
-    };
-    made(set, NewFault::Map(MapFault::NoMemory))
+    }
 }
 
-fn set_by<R: Wait>(heap: &Heap, table: &Table<'_, R>, make: Make, by: SpreadState) -> Said {
-    let set: Result<Set<'_, '_, '_, SpreadState, R>, MapFault> = match make {
-        Make::By => DashSet::with_hasher(heap, by, 1, table),
-        Make::ByCapacity => DashSet::with_capacity_and_hasher(heap, 100, by, 1, table),
-        _ => DashSet::default(heap, by, 1, table),
-    };
-    made(set, MapFault::NoMemory)
-}
-
-fn set_of<'h, R: Wait>(
+fn set_by<'h, Q: RawRwLock + MakeLock<T> + Drop, T: Copy + Drop>(
     heap: &'h Heap,
-    table: &Table<'_, R>,
+    table: T,
+    make: Make,
+) -> Made<Set<'h, SpreadState, Q>> {
+    match make {
+        Make::By => DashSet::with_hasher(heap, SpreadState, 1, table),
+        Make::ByCapacity => DashSet::with_capacity_and_hasher(heap, 100, SpreadState, 1, table),
+        _ => DashSet::default(heap, SpreadState, 1, table),
+    }
+}
+
+fn set_of<'h, Q: RawRwLock + MakeLock<T> + Drop, T: Copy + Drop>(
+    heap: &'h Heap,
+    table: T,
     make: Make,
     keys: Vec<u64, &'h Heap>,
-) -> Said {
-    let set: Result<Set<'_, '_, '_, SpreadState, R>, MapFault> = match make {
+) -> Made<Set<'h, SpreadState, Q>> {
+    match make {
         Make::Iter => DashSet::from_iter(heap, keys.into_iter(), SpreadState, 1, table),
         _ => DashSet::from_par_iter(heap, keys, SpreadState, 1, table),
-    };
-    made(set, MapFault::NoMemory)
+    }
 }
 
 /// Makes a set, as a map is made.
-pub fn make_set<R: Wait + RandomSource>(
-    heap: &Heap,
-    table: &Table<'_, R>,
-    make: Make,
-) -> Option<Seen> {
-    if let Make::Iter | Make::ParIter = make {
-        let keys = keys(heap)?;
-        let before = heap.asked();
-        let said = set_of(heap, table, make, keys);
-        return said.seen(heap, before, are_taken(table, TAKEN));
-    }
+pub fn make_set<R: RandomSource>(heap: &Heap, table: &Table<'_, R>, make: Make) -> Option<Seen> {
+    let keys = keys(heap)?;
     let before = heap.asked();
     let said = match make {
-        Make::New | Make::WithCapacity => new_set(heap, table, make),
-        _ => set_by(heap, table, make, SpreadState),
+        Make::New | Make::WithCapacity => {
+            let set: Result<Set<'_, RandomState, Row<'_, '_, R>>, NewFault> = new_set(
+                heap, table, make,
+            );
+            made(set, NewFault::Map(MapFault::NoMemory))
+        }
+        _ => {
+            let set: Made<Set<'_, SpreadState, Row<'_, '_, R>>> = match make {
+                Make::Iter | Make::ParIter => set_of(heap, table, make, keys),
+                _ => set_by(heap, table, make),
+            };
+            made(set, MapFault::NoMemory)
+        }
     };
     said.seen(heap, before, are_taken(table, TAKEN))
 }

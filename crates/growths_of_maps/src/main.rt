@@ -3,6 +3,7 @@
 //! of each were refused, and what stood behind it.
 #![tactic(auto)]
 
+mod costly;
 mod forms;
 mod made;
 mod map_worlds;

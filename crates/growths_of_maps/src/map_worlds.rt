@@ -1,10 +1,10 @@
 //! Worlds of maps, whose threads go by a schedule.
 
 use crate::maps::wanted;
-use refusing_heap::{Case, Heap, Line, Said, Seen, listed, made, refused_growth};
 use dashmap_table::SpreadState;
 use mapworld::{MapWorld, NoMemory, Status, Step, WorldNewFault};
 use mapworld_text::{Asked, Case as Text, Change, Shown, read};
+use refusing_heap::{Case, Heap, Line, Said, Seen, listed, made, refused_growth};
 use std::alloc::{AllocError, Global};
 
 type World<'h> = MapWorld<u64, u64, SpreadState, Change, &'h Heap>;

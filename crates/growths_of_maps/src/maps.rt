@@ -1,14 +1,15 @@
 //! Calls on maps as data.
 
-use crate::rows::{EACH, Map, Me, On, PAIR, Table, are_free, map_of};
-use refusing_heap::{Heap, Line, Seen, refused_growth};
+use crate::rows::{EACH, Map, Me, On, PAIR, Row, Rows, Table, map_of};
 use dashmap_calls::{Answer, Call, Keyed, Many, Operator, Place, Try, Walk, make};
+use lock_api_raw::RawRwLock;
+use refusing_heap::{Heap, Line, Seen, refused_growth};
 use std::sync::Wait;
 
 /// A call on a map on which these were made before, and what it answers: where it is done; and where the first growth
 /// is refused, the second, .., and behind the last of these alike.
 #[derive(Clone, Copy)]
-pub struct OnMap(&'static [Call], Call, Answer, &'static [Answer]);
+pub struct OnMap<'a>(&'a [Call], Call, Answer, &'a [Answer]);
 
 /// The item of such a list for this growth, of which the first is 1; and this one for 0, where none is refused.
 pub fn wanted<T: Copy>(done: T, refused: &[T], growth: u64) -> T {
@@ -25,7 +26,10 @@ pub fn wanted<T: Copy>(done: T, refused: &[T], growth: u64) -> T {
 const KEYS: u64 = 64;
 
 /// How many pairs there are, and a number that tells of all of them.
-fn pairs_of<R: Wait>(map: &Map<'_, '_, '_, R>, me: &mut Me) -> (u64, u64) {
+fn pairs_of<Q: RawRwLock>(map: &Map<'_, Q>, me: &mut Q::Party) -> (u64, u64)
+where
+    Q::Runtime: Wait,
+{
     let mut sum = 0u64;
     for key in 0..KEYS {
         sum = sum.wrapping_mul(31);
@@ -36,27 +40,41 @@ fn pairs_of<R: Wait>(map: &Map<'_, '_, '_, R>, me: &mut Me) -> (u64, u64) {
     (map.len(me) as u64, sum)
 }
 
-/// Makes the call on a map, and compares what stands: first that no shard is held, since who asks for one that is,
+/// Makes the call, and compares what stands: first that no shard is held, since who asks for one that is,
 /// waits.
+fn look<Q: RawRwLock, T: Rows + Drop>(
+    heap: &Heap,
+    table: T,
+    map: &Map<'_, Q>,
+    me: &mut Q::Party,
+    call: OnMap<'_>,
+) -> Option<Seen>
+where
+    Q::Runtime: Wait,
+{
+    let OnMap(others, call, done, refused) = call;
+    for other in others {
+        let _answer = make(map, *other, me);
+    }
+    let pairs = pairs_of(map, me);
+    let before = heap.asked();
+    let answer = make(map, call, me);
+    let behind = heap.asked();
+    let growth = refused_growth(heap, before);
+    let is_so = table.are_free() && answer == wanted(done, refused, growth);
+    let is_kept = is_so && (growth == 0 || pairs_of(map, me) == pairs);
+    Seen::of(before, behind, is_kept)
+}
+
+/// Makes the call on a new map.
 pub fn ask_map<R: Wait>(
     heap: &Heap,
     table: &Table<'_, R>,
     me: &mut Me,
-    call: OnMap,
+    call: OnMap<'_>,
 ) -> Option<Seen> {
-    let map = map_of(heap, table).ok()?;
-    let OnMap(others, call, done, refused) = call;
-    for other in others {
-        let _answer = make(&map, *other, me);
-    }
-    let pairs = pairs_of(&map, me);
-    let before = heap.asked();
-    let answer = make(&map, call, me);
-    let behind = heap.asked();
-    let growth = refused_growth(heap, before);
-    let is_so = are_free(table) && answer == wanted(done, refused, growth);
-    let is_kept = is_so && (growth == 0 || pairs_of(&map, me) == pairs);
-    Seen::of(before, behind, is_kept)
+    let map: Map<'_, Row<'_, '_, R>> = map_of(heap, table).ok()?;
+    look(heap, table, &map, me, call)
 }
 
 const NEW: &[Call] = &[];

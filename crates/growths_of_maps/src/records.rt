@@ -1,17 +1,18 @@
 //! Recorded maps: their calls, and the gathering of what was written down.
 
-use crate::rows::{Me as Thread, On, Row, SHARDS, Table, are_free, are_taken};
-use refusing_heap::{Heap, Line, Said, Seen, listed, made};
+use crate::rows::{Me as Thread, On, Row, Rows, SHARDS, Table, are_taken};
 use dashmap_record::{
     Call, CallReply, Caller, Entered, GatherFault, RecordFault, Recorded, gather,
 };
 use dashmap_table::MapFault;
+use lock_api_raw::RawRwLock;
+use refusing_heap::{Heap, Line, Said, Seen, listed, made};
 use std::hash::{BuildHasherDefault, FoldHasher};
 use std::sync::Wait;
 
 type Fold = BuildHasherDefault<FoldHasher>;
 
-type Small<'t, 'l, 'h, R> = Recorded<u64, u64, Fold, Row<'t, 'l, R>, &'h Heap>;
+type Small<'h, Q> = Recorded<u64, u64, Fold, Q, &'h Heap>;
 
 type Me<'h> = Caller<u64, u64, &'h Heap>;
 
@@ -22,11 +23,7 @@ type Reply = Result<CallReply<u64, u64>, RecordFault>;
 
 /// A call on a recorded map on which these were made before, and its reply.
 #[derive(Clone, Copy)]
-pub struct OnRecord(
-    &'static [Call<u64, u64>],
-    Call<u64, u64>,
-    CallReply<u64, u64>,
-);
+pub struct OnRecord<'a>(&'a [Call<u64, u64>], Call<u64, u64>, CallReply<u64, u64>);
 
 /// The reply of a value that may be there.
 fn of_value(said: Option<u64>) -> CallReply<u64, u64> {
@@ -37,12 +34,15 @@ fn of_value(said: Option<u64>) -> CallReply<u64, u64> {
 }
 
 /// Makes a call, and answers what was written down of it.
-fn make<'h, R: Wait>(
-    map: &Small<'_, '_, 'h, R>,
+fn make<'h, Q: RawRwLock>(
+    map: &Small<'h, Q>,
     call: Call<u64, u64>,
     me: &mut Me<'h>,
-    td: &mut Thread,
-) -> Reply {
+    td: &mut Q::Party,
+) -> Reply
+where
+    Q::Runtime: Wait,
+{
     match call {
         Call::Insert(key, value) => Ok(of_value(map.insert(key, value, me, td)?)),
         Call::GetCopied(key) => Ok(of_value(map.get_copied(&key, me, td)?)),
@@ -57,7 +57,10 @@ fn make<'h, R: Wait>(
 }
 
 /// How many entries the histories of all shards have.
-fn entries<R: Wait>(map: &Small<'_, '_, '_, R>, td: &mut Thread) -> usize {
+fn entries<Q: RawRwLock>(map: &Small<'_, Q>, td: &mut Q::Party) -> usize
+where
+    Q::Runtime: Wait,
+{
     let mut count = 0usize;
     for shard in 0..SHARDS {
         let length = map.look(shard, |entries| entries.len(), td);
@@ -66,12 +69,15 @@ fn entries<R: Wait>(map: &Small<'_, '_, '_, R>, td: &mut Thread) -> usize {
     count
 }
 
-fn make_all<'h, R: Wait>(
-    map: &Small<'_, '_, 'h, R>,
+fn make_all<'h, Q: RawRwLock>(
+    map: &Small<'h, Q>,
     calls: &[Call<u64, u64>],
     me: &mut Me<'h>,
-    td: &mut Thread,
-) -> Option<()> {
+    td: &mut Q::Party,
+) -> Option<()>
+where
+    Q::Runtime: Wait,
+{
     for call in calls {
         make(map, *call, me, td).ok()?;
     }
@@ -80,24 +86,27 @@ fn make_all<'h, R: Wait>(
 
 /// Makes the call. A refused one is made again, and is answered then as if it hadn't been made before. What stands is
 /// looked at where no shard is held, since who asks for one that is waits.
-fn ask<'h, R: Wait>(
+fn ask<'h, Q: RawRwLock, T: Rows + Drop>(
     heap: &'h Heap,
-    table: &Table<'_, R>,
-    map: &Small<'_, '_, 'h, R>,
+    table: T,
+    map: &Small<'h, Q>,
     me: &mut Me<'h>,
-    td: &mut Thread,
-    call: OnRecord,
-) -> Option<Seen> {
+    td: &mut Q::Party,
+    call: OnRecord<'_>,
+) -> Option<Seen>
+where
+    Q::Runtime: Wait,
+{
     let OnRecord(others, call, done) = call;
     make_all(map, others, me, td)?;
     let (last, count) = (me.last(), entries(map, td));
     let before = heap.asked();
     let said = make(map, call, me, td);
     let behind = heap.asked();
-    let is_short = are_free(table) && said == Err(RecordFault::NoMemory);
+    let is_short = table.are_free() && said == Err(RecordFault::NoMemory);
     let is_kept = is_short && me.last() == last && entries(map, td) == count;
     let is_made = is_kept && make(map, call, me, td) == Ok(done);
-    let stood = are_free(table) && Said::of(said == Ok(done), is_made).fits(heap);
+    let stood = table.are_free() && Said::of(said == Ok(done), is_made).fits(heap);
     let is_right = stood && entries(map, td) == count.wrapping_add(1);
     Seen::of(before, behind, is_right)
 }
@@ -119,7 +128,7 @@ fn gather_all<'h>(
 fn recorded<'t, 'l, 'h, R: Wait>(
     heap: &'h Heap,
     table: &'t Table<'l, R>,
-) -> Option<(Small<'t, 'l, 'h, R>, Me<'h>)> {
+) -> Option<(Small<'h, Row<'t, 'l, R>>, Me<'h>)> {
     let (map, mut callers) = Recorded::new(heap, SHARDS, Fold::new(), 1, table).ok()?;
     Some((map, callers.pop()?))
 }
@@ -129,7 +138,7 @@ pub fn with_record<R: Wait>(
     heap: &Heap,
     table: &Table<'_, R>,
     td: &mut Thread,
-    call: OnRecord,
+    call: OnRecord<'_>,
 ) -> Option<Seen> {
     let (map, mut me) = recorded(heap, table)?;
     let seen = ask(heap, table, &map, &mut me, td, call)?;
@@ -156,7 +165,7 @@ pub fn gather_twelve<R: Wait>(heap: &Heap, table: &Table<'_, R>, td: &mut Thread
 /// Makes a recorded map. The rows that it took stay used, of a refused one too.
 pub fn make_record<R: Wait>(heap: &Heap, table: &Table<'_, R>) -> Option<Seen> {
     let before = heap.asked();
-    let map: Result<(Small<'_, '_, '_, R>, Vec<Me<'_>, &Heap>), MapFault> = Recorded::new(
+    let map: Result<(Small<'_, Row<'_, '_, R>>, Vec<Me<'_>, &Heap>), MapFault> = Recorded::new(
         heap,
         SHARDS,
         Fold::new(),

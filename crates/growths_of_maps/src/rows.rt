@@ -9,8 +9,9 @@ use crate::sets::{OnSet, with_set};
 use dashmap_calls::{Answer, Call, Many, Numbers, make as answer};
 use dashmap_map::DashMap;
 use dashmap_table::{MapFault, SpreadState};
+use lock_api_raw::{MakeLock, RawRwLock};
 use parking_lot_core::{ParkingLot, ThreadData};
-use parking_lot_rwlock::{LockTable, RawRwLock};
+use parking_lot_rwlock::{self as running, LockTable};
 use refusing_heap::{Heap, Line, Refusal, RefusingHeap, Seen, Wrong, print_line};
 use std::alloc::{Allocator, Global};
 use std::random::RandomSource;
@@ -23,9 +24,9 @@ pub type Table<'l, R> = LockTable<'l, R>;
 pub type Me = ThreadData;
 
 /// The lock of a shard.
-pub type Row<'t, 'l, R> = RawRwLock<'t, 'l, R, 0, Global>;
+pub type Row<'t, 'l, R> = running::RawRwLock<'t, 'l, R, 0, Global>;
 
-pub type Map<'t, 'l, 'h, R> = Numbers<SpreadState, Row<'t, 'l, R>, &'h Heap>;
+pub type Map<'h, Q> = Numbers<SpreadState, Q, &'h Heap>;
 
 const ROWS: usize = 16;
 
@@ -52,7 +53,7 @@ pub struct Team {
 pub enum On {
     Make(Make),
     MakeSet(Make),
-    Map(OnMap),
+    Map(OnMap<'static>),
     Owned(Owned),
     /// Of an entry whose key is a text.
     InsertEntry,
@@ -60,7 +61,7 @@ pub enum On {
     Collect,
     View(Viewed),
     Set(OnSet),
-    Record(OnRecord),
+    Record(OnRecord<'static>),
     MakeRecord,
     Gather,
 }
@@ -82,37 +83,52 @@ pub fn keys<A: Allocator>(alloc: A) -> Option<Vec<u64, A>> {
     Some(keys)
 }
 
-pub fn map_of<'t, 'l, 'h, R: Wait>(
+pub fn map_of<'h, Q: RawRwLock + MakeLock<T> + Drop, T: Copy + Drop>(
     heap: &'h Heap,
-    table: &'t Table<'l, R>,
-) -> Result<Map<'t, 'l, 'h, R>, MapFault> {
+    table: T,
+) -> Result<Map<'h, Q>, MapFault> {
     DashMap::with_hasher_and_shard_amount(heap, SpreadState, SHARDS, table)
 }
 
 /// Puts in so many of the keys 0, 1, .., each with itself.
-pub fn put<R: Wait>(map: &Map<'_, '_, '_, R>, keys: u64, me: &mut Me) {
+pub fn put<Q: RawRwLock>(map: &Map<'_, Q>, keys: u64, me: &mut Q::Party)
+where
+    Q::Runtime: Wait,
+{
     let _all = answer(map, Call::Many(Many::Insert(0, keys, 0)), me);
 }
 
-/// Whether the keys from one number to below another are there, each with itself.
-pub fn has<R: Wait>(map: &Map<'_, '_, '_, R>, from: u64, to: u64, me: &mut Me) -> bool {
-    let view = Call::Many(Many::View(from, to, 0));
-    answer(map, view, me) == Answer::Number(to.saturating_sub(from))
+/// How many of the keys from one number to below another are there, each with itself.
+pub fn count<Q: RawRwLock>(map: &Map<'_, Q>, from: u64, to: u64, me: &mut Q::Party) -> u64
+where
+    Q::Runtime: Wait,
+{
+    match answer(map, Call::Many(Many::View(from, to, 0)), me) {
+        Answer::Number(count) => count,
+        _ => 0,
+    }
 }
 
-/// Whether each word is 0, so nobody holds a shard or waits for one.
-pub fn are_free<R>(table: &Table<'_, R>) -> bool {
-    let mut free = true;
-    for row in 0..ROWS {
-        free &= table.word(row) == Some(0);
+/// A table of locks whose rows are looked at.
+pub trait Rows: Copy {
+    /// Whether each word is 0, so nobody holds a shard or waits for one.
+    fn are_free(self) -> bool;
+}
+
+impl<R> Rows for &Table<'_, R> {
+    fn are_free(self) -> bool {
+        let mut free = true;
+        for row in 0..ROWS {
+            free &= self.word(row) == Some(0);
+        }
+        free
     }
-    free
 }
 
 /// Whether so many rows are taken, none of which is held. One more is taken then.
 pub fn are_taken<R>(table: &Table<'_, R>, rows: usize) -> bool {
     match table.claim() {
-        Ok(row) => are_free(table) && row.number() == rows,
+        Ok(row) => table.are_free() && row.number() == rows,
         Err(_) => false,
     }
 }

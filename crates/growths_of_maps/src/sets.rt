@@ -1,14 +1,15 @@
 //! Sets: their calls, their owner's calls and their parallel forms.
 
-use crate::rows::{FROM, Me, On, Row, TO, Table, Team, are_free, keys};
-use refusing_heap::{Heap, Line, Said, Seen, listed, made};
+use crate::rows::{FROM, On, Row, Rows, TO, Table, Team, keys};
 use dashmap::set::DashSet;
 use dashmap_parallel::ParExtendFault;
 use dashmap_table::{MapFault, NoMemory, SpreadState};
+use lock_api_raw::{MakeLock, RawRwLock};
+use refusing_heap::{Heap, Line, Said, Seen, listed, made};
 use std::sync::Wait;
 use std::thread::Threads;
 
-type Set<'t, 'l, 'h, R> = DashSet<u64, SpreadState, Row<'t, 'l, R>, &'h Heap>;
+type Set<'h, Q> = DashSet<u64, SpreadState, Q, &'h Heap>;
 
 /// A call on a set of four shards that is empty, or has the keys 0 and 1.
 #[derive(Clone, Copy)]
@@ -40,7 +41,10 @@ enum Came {
     Other(Said),
 }
 
-fn count<R: Wait>(set: &Set<'_, '_, '_, R>, from: u64, to: u64, me: &mut Me) -> u64 {
+fn count<Q: RawRwLock>(set: &Set<'_, Q>, from: u64, to: u64, me: &mut Q::Party) -> u64
+where
+    Q::Runtime: Wait,
+{
     let mut count = 0u64;
     for key in from..to {
         if set.contains(&key, me) {
@@ -52,7 +56,10 @@ fn count<R: Wait>(set: &Set<'_, '_, '_, R>, from: u64, to: u64, me: &mut Me) -> 
 
 /// Compares what came of a call with what the set has: of an extension the keys before the one that came back, and no
 /// others of it.
-fn compared<R: Wait>(set: &Set<'_, '_, '_, R>, came: Came, me: &mut Me) -> Said {
+fn compared<Q: RawRwLock>(set: &Set<'_, Q>, came: Came, me: &mut Q::Party) -> Said
+where
+    Q::Runtime: Wait,
+{
     let put = count(set, FROM, TO, me);
     match came {
         Came::Inserted(said) => match set.contains(&5, me) {
@@ -70,7 +77,10 @@ fn compared<R: Wait>(set: &Set<'_, '_, '_, R>, came: Came, me: &mut Me) -> Said 
 }
 
 /// What came of a walk over two keys. It asks for room at each shard, also at those that have no key.
-fn walked<R: Wait>(set: &Set<'_, '_, '_, R>, me: &mut Me) -> Said {
+fn walked<Q: RawRwLock>(set: &Set<'_, Q>, me: &mut Q::Party) -> Said
+where
+    Q::Runtime: Wait,
+{
     let (mut met, mut refused) = (0u64, 0u64);
     let walk = {
         let me = &mut *me;
@@ -85,61 +95,71 @@ fn walked<R: Wait>(set: &Set<'_, '_, '_, R>, me: &mut Me) -> Said {
     Said::of(met == 2 && refused == 0, met <= 2 && refused == 1)
 }
 
-fn collect<R: Wait + Threads + Sync + Send>(
+fn collect<Q: RawRwLock + Sync, R: Threads + Sync>(
     heap: &Heap,
-    table: &Table<'_, R>,
-    set: &Set<'_, '_, '_, R>,
-    tds: &mut [Me],
-) -> Said {
+    rt: &R,
+    set: &Set<'_, Q>,
+    tds: &mut [Q::Party],
+) -> Said
+where
+    Q::Runtime: Wait,
+    Q::Party: Send,
+{
     match set.par_iter(tds) {
         Ok(walk) => {
-            let rt = table.lot().runtime();
-            listed(walk.map_collect(rt, heap, |key: &u64| *key), 2, NoMemory)
+            let list = walk.map_collect(rt, heap, |key: &u64| *key);
+            listed(list, 2, NoMemory)
         }
         Err(_) => Said::Other,
     }
 }
 
-fn make_call<'t, 'l, R: Wait + Threads + Sync + Send>(
-    heap: &Heap,
-    table: &'t Table<'l, R>,
-    set: &mut Set<'t, 'l, '_, R>,
-    team: &mut Team,
+/// Makes a call that takes no thread but this one.
+fn make_call<Q: RawRwLock + MakeLock<T> + Drop, T: Copy + Drop>(
+    table: T,
+    set: &mut Set<'_, Q>,
+    me: &mut Q::Party,
     call: OnSet,
-) -> Came {
+) -> Came
+where
+    Q::Runtime: Wait,
+{
     match call {
-        OnSet::Insert => Came::Inserted(set.insert(5, &mut team.me)),
+        OnSet::Insert => Came::Inserted(set.insert(5, me)),
         OnSet::InsertMut => Came::Inserted(set.insert_mut(5)),
-        OnSet::Iter => Came::Other(walked(set, &mut team.me)),
-        OnSet::Clone => {
-            let copy = set.clone(table, &mut team.me);
-            Came::Other(made(copy, MapFault::NoMemory))
-        }
-        OnSet::MapCollect => Came::Other(collect(heap, table, set, &mut team.others)),
-        _ => Came::Other(made(set.shrink_to_fit(&mut team.me), NoMemory)),
+        OnSet::Iter => Came::Other(walked(set, me)),
+        OnSet::Clone => Came::Other(made(set.clone(table, me), MapFault::NoMemory)),
+        _ => Came::Other(made(set.shrink_to_fit(me), NoMemory)),
     }
 }
 
 /// Makes an extension. Answers how many growths were asked for before, too.
-fn extend<'h, R: Wait + Threads + Sync + Send>(
+fn extend<'h, Q: RawRwLock + Sync, R: Threads + Sync>(
     heap: &'h Heap,
-    table: &Table<'_, R>,
-    set: &mut Set<'_, '_, 'h, R>,
-    tds: &mut [Me],
+    rt: &R,
+    set: &mut Set<'h, Q>,
+    tds: &mut [Q::Party],
     call: OnSet,
-) -> Option<(u64, Came)> {
+) -> Option<(u64, Came)>
+where
+    Q::Runtime: Wait,
+    Q::Party: Send,
+{
     let keys = keys(heap)?;
     let before = heap.asked();
     let came = match call {
         OnSet::Extend => Came::Extended(set.extend(keys.into_iter())),
         OnSet::ParExtend => Came::Extended(set.par_extend(keys)),
-        _ => Came::Shared(set.par_extend_shared(table.lot().runtime(), keys, tds)),
+        _ => Came::Shared(set.par_extend_shared(rt, keys, tds)),
     };
     Some((before, came))
 }
 
 /// Puts keys in, and takes some of them out again. Answers how many of the keys 0, 1, .. stay.
-fn prepare<R: Wait>(set: &Set<'_, '_, '_, R>, me: &mut Me, call: OnSet) -> Option<u64> {
+fn prepare<Q: RawRwLock>(set: &Set<'_, Q>, me: &mut Q::Party, call: OnSet) -> Option<u64>
+where
+    Q::Runtime: Wait,
+{
     let (keys, most) = match call {
         OnSet::Insert | OnSet::InsertMut => (0, 0),
         OnSet::ShrinkToFit => (2, 40),
@@ -154,46 +174,58 @@ fn prepare<R: Wait>(set: &Set<'_, '_, '_, R>, me: &mut Me, call: OnSet) -> Optio
     Some(keys)
 }
 
-/// Makes a call on a set that stays. What stands is looked at where no shard is held, since who asks for one that is
-/// waits.
-fn ask<'t, 'l, 'h, R: Wait + Threads + Sync + Send>(
-    heap: &'h Heap,
-    table: &'t Table<'l, R>,
-    set: &mut Set<'t, 'l, 'h, R>,
-    team: &mut Team,
+/// Compares what stands where no shard is held, since who asks for one that is waits.
+fn stands<Q: RawRwLock>(
+    heap: &Heap,
+    set: &Set<'_, Q>,
     keys: u64,
-    call: OnSet,
-) -> Option<Seen> {
-    let (before, came) = match call {
-        OnSet::Extend | OnSet::ParExtend | OnSet::ParExtendShared => {
-            extend(heap, table, set, &mut team.others, call)?
-        }
-        _ => (heap.asked(), make_call(heap, table, set, team, call)),
-    };
-    let behind = heap.asked();
-    let fits = are_free(table) && compared(set, came, &mut team.me).fits(heap);
-    let is_right = fits && count(set, 0, keys, &mut team.me) == keys;
-    Seen::of(before, behind, is_right)
+    came: Came,
+    me: &mut Q::Party,
+) -> bool
+where
+    Q::Runtime: Wait,
+{
+    compared(set, came, me).fits(heap) && count(set, 0, keys, me) == keys
 }
 
-/// Makes a call on a set, or collects the keys of one that goes, which may do with less memory than it asks for
-/// first.
+/// Collects the keys of a set that goes. It may do with less memory than it asks for first.
+fn collect_owned<Q: RawRwLock + Drop, R: Threads + Sync>(
+    heap: &Heap,
+    rt: &R,
+    set: Set<'_, Q>,
+) -> Said {
+    let list = set.into_par_iter().map_collect(rt, heap, |key: u64| key);
+    listed(list, 2, NoMemory)
+}
+
+/// Makes a call on a set, or collects the keys of one that goes.
 pub fn with_set<R: Wait + Threads + Sync + Send>(
     heap: &Heap,
     table: &Table<'_, R>,
     team: &mut Team,
     call: OnSet,
 ) -> Option<Seen> {
-    let mut set: Set<'_, '_, '_, R> = DashSet::with_hasher(heap, SpreadState, 1, table).ok()?;
+    let rt = table.lot().runtime();
+    let mut set: Set<'_, Row<'_, '_, R>> = DashSet::with_hasher(heap, SpreadState, 1, table).ok()?;
     let keys = prepare(&set, &mut team.me, call)?;
-    if let OnSet::OwnedMapCollect = call {
-        let rt = table.lot().runtime();
-        let before = heap.asked();
-        let list = set.into_par_iter().map_collect(rt, heap, |key: u64| key);
-        let said = listed(list, 2, NoMemory);
-        return Seen::of(before, heap.asked(), said.may_fit(heap) && are_free(table));
-    }
-    ask(heap, table, &mut set, team, keys, call)
+    let before = heap.asked();
+    let (before, came) = match call {
+        OnSet::OwnedMapCollect => {
+            let said = collect_owned(heap, rt, set);
+            return Seen::of(before, heap.asked(), said.may_fit(heap) && table.are_free());
+        }
+        OnSet::Extend | OnSet::ParExtend | OnSet::ParExtendShared => {
+            extend(heap, rt, &mut set, &mut team.others, call)?
+        }
+        OnSet::MapCollect => (
+            before,
+            Came::Other(collect(heap, rt, &set, &mut team.others)),
+        ),
+        _ => (before, make_call(table, &mut set, &mut team.me, call)),
+    };
+    let behind = heap.asked();
+    let is_right = table.are_free() && stands(heap, &set, keys, came, &mut team.me);
+    Seen::of(before, behind, is_right)
 }
 
 const KEY: &str = "the key comes back; no key; no hold";

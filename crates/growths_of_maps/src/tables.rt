@@ -1,10 +1,10 @@
 //! Plain shards, and a value that owns memory.
 
 use crate::rows::{FROM, MIDDLE, SHARDS, TO, pairs};
-use refusing_heap::{Case, Heap, Line, Said, Seen, made};
 use dashmap_guard::SharedValue;
 use dashmap_plain::ExtendShards;
 use dashmap_table::{MapFault, NoMemory, Shard, Shards, SpreadState};
+use refusing_heap::{Case, Heap, Line, Said, Seen, made};
 
 type Small<'h> = Shard<u64, u64, &'h Heap>;
 
