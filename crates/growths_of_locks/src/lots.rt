@@ -47,7 +47,8 @@ fn make(lot: &mut Lot<&Heap>, call: Call) -> Said {
     match call {
         Call::Register(threads) => {
             let said = lot.register();
-            Said::of(said == Ok(threads), said == Err(LotFault::NoMemory))
+            let is_short = said == Err(LotFault::NoMemory) && lot.status(threads).is_none();
+            Said::of(said == Ok(threads), is_short)
         }
         Call::Resources => listed(lot.resources(0), 1, LotFault::NoMemory),
         Call::Queue => listed(lot.queue(5), 1, LotFault::NoMemory),
