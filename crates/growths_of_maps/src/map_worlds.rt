@@ -80,6 +80,14 @@ fn go(world: &mut World<'_>, thread: usize, steps: usize) {
     }
 }
 
+fn count_of(world: &World<'_>) -> u64 {
+    let mut count = 0u64;
+    for _pair in world.pairs() {
+        count = count.wrapping_add(1);
+    }
+    count
+}
+
 /// Adds who was answered what, whose the blocks are, the pairs of the keys 1 and 2, and how many pairs there are.
 fn tell(world: &World<'_>, text: &mut String) -> Result<(), AllocError> {
     for reply in world.replies() {
@@ -95,7 +103,7 @@ fn tell(world: &World<'_>, text: &mut String) -> Result<(), AllocError> {
             write!(text, " {key}={value}")?;
         }
     }
-    write!(text, " of {}", world.pairs().count())
+    write!(text, " of {}", count_of(world))
 }
 
 fn is_told(alloc: Global, world: &World<'_>, wanted: &str) -> bool {
