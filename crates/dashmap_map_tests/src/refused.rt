@@ -1,7 +1,7 @@
-//! Each growth of a map, and each item of a walk, refused in turn, by heaps of all small sizes.
+//! A map's owner and a shrink on heaps of all small sizes, and what a map is refused for first.
 
 use crate::tables::Spun;
-use dashmap_calls::{Answer, Call, Keyed, Many, Numbers, Place, Try, Walk, call_many, make};
+use dashmap_calls::{Answer, Call, Keyed, Many, Numbers, call_many, make};
 use dashmap_map::DashMap;
 use dashmap_table::{MapFault, SpreadState};
 use linked_list_allocator::LocalHeap;
@@ -42,65 +42,6 @@ fn filled<R: Wait + Drop>(map: &Small<'_, R>, most: u64) -> u64 {
 fn has_all<R: Wait + Drop>(map: &Small<'_, R>, count: u64) -> bool {
     call_many(map, Many::View(0, count, 0), &mut 1) == count
         && answers(map, Call::Len, Answer::Number(count))
-}
-
-#[test]
-fn a_refused_insertion_hands_the_pair_back(rt: HostRuntime) -> Result<(), Fail> {
-    let (mut unmade, mut refused) = (false, false);
-    for size in 0..60 {
-        let heap = LocalHeap::new(rt.alloc(), size * 64)?;
-        match small(rt, &heap, 0, 2) {
-            Ok(map) => {
-                let count = filled(&map, 12);
-                if count < 12 {
-                    refused = true;
-                    let put = Call::Key(Keyed::Insert(count, 7));
-                    assert!(rt; answers(&map, put, Answer::Back(count, 7)), "of {size}");
-                    let look = Call::Key(Keyed::ContainsKey(count));
-                    assert!(rt; answers(&map, look, Answer::Flag(false)), "of {size}");
-                }
-                for key in 0..count {
-                    let put = Call::Key(Keyed::Insert(key, key));
-                    assert!(rt; answers(&map, put, Answer::Number(key)), "of {size}");
-                }
-                assert!(rt; has_all(&map, count), "of {size}");
-            }
-            Err(fault) => {
-                unmade = true;
-                assert!(rt; fault == MapFault::NoMemory, "of {size}");
-            }
-        }
-    }
-    assert!(rt; unmade && refused);
-    Ok(())
-}
-
-#[test]
-fn a_refused_entry_hands_the_key_back(rt: HostRuntime) -> Result<(), Fail> {
-    let (mut refused, mut entered) = (false, false);
-    for size in 0..60 {
-        let heap = LocalHeap::new(rt.alloc(), size * 64)?;
-        let Ok(map) = small(rt, &heap, 0, 2) else {
-            continue;
-        };
-        let count = filled(&map, 2);
-        let answer = make(&map, Call::Entry(count, Place::VacantInsert(5)), &mut 1);
-        if answer == Answer::Refused(count) {
-            refused = true;
-            let mut right = answers(&map, Call::Try(Try::Entry(count)), answer);
-            right &= answers(&map, Call::Try(Try::Get(count)), Answer::Absent);
-            assert!(rt; right && has_all(&map, count), "of {size}");
-        } else {
-            entered = true;
-            assert!(rt; answer == Answer::Number(5), "of {size}");
-        }
-        for key in 0..count {
-            let write = Call::Try(Try::GetMut(key, key));
-            assert!(rt; answers(&map, write, Answer::Number(key)), "of {size}");
-        }
-    }
-    assert!(rt; refused && entered);
-    Ok(())
 }
 
 #[test]
@@ -204,30 +145,5 @@ fn a_map_is_refused_for_its_amount_first(rt: HostRuntime) -> Result<(), Fail> {
         rt,
     );
     assert!(rt; made.err() == Some(MapFault::BadShards));
-    Ok(())
-}
-
-#[test]
-fn each_item_is_refused_in_turn(rt: HostRuntime) -> Result<(), Fail> {
-    let (mut at_first, mut at_second, mut never) = (false, false, false);
-    for size in 0..160 {
-        let heap = LocalHeap::new(rt.alloc(), size * 32)?;
-        let Ok(map) = small(rt, &heap, 0, 2) else {
-            continue;
-        };
-        if filled(&map, 2) < 2 {
-            continue;
-        }
-        match make(&map, Call::Walk(Walk::Iter(0)), &mut 1) {
-            Answer::Refused(0) => at_first = true,
-            Answer::Refused(1) => at_second = true,
-            answer => {
-                never = true;
-                assert!(rt; answer == Answer::Three(2, 1, 2), "of {size}");
-            }
-        }
-        assert!(rt; has_all(&map, 2), "of {size}");
-    }
-    assert!(rt; at_first && at_second && never);
     Ok(())
 }

@@ -77,67 +77,6 @@ fn a_refused_insertion_hands_the_pair_back_and_a_present_key_needs_no_memory(
     Ok(())
 }
 
-/// On a heap: whether room for twenty more pairs is had, if a refusal changes nothing.
-fn is_reserved(heap: &LocalHeap) -> Option<bool> {
-    let (mut shard, count) = packed(heap, 2);
-    let capacity = shard.capacity();
-    let is_had = shard.reserve(20).is_ok();
-    let right = (is_had || shard.capacity() == capacity) && has_all(&mut shard, count);
-    if right { Some(is_had) } else { None }
-}
-
-#[test]
-fn refused_room_changes_nothing(rt: HostRuntime) -> Result<(), Fail> {
-    let (mut refused, mut done) = (false, false);
-    for size in 4..40 {
-        let heap = LocalHeap::new(rt.alloc(), size * 64)?;
-        let had = is_reserved(&heap);
-        assert!(rt; had.is_some(), "of {size}");
-        refused |= had == Some(false);
-        done |= had == Some(true);
-    }
-    assert!(rt; refused && done);
-    Ok(())
-}
-
-/// The largest block that a heap still has, taken.
-fn largest_block(heap: &LocalHeap) -> Vec<u8, &LocalHeap> {
-    let mut block = Vec::new(heap);
-    for less in 0..160 {
-        if block.reserve((160 - less) * 16).is_ok() {
-            break;
-        }
-    }
-    block
-}
-
-/// On a heap: whether a shard with two pairs and much room shrinks, if a refusal changes nothing.
-fn is_shrunk(heap: &LocalHeap, is_full: bool) -> Option<bool> {
-    let (mut shard, count) = packed(heap, 12);
-    for key in 2..count {
-        let _pair = make(&mut shard, Call::Remove(key, key));
-    }
-    let capacity = shard.capacity();
-    let _taken = is_full.then(|| (largest_block(heap), largest_block(heap)));
-    let is_done = shard.shrink().is_ok();
-    let right = (is_done || shard.capacity() == capacity) && has_all(&mut shard, count.min(2));
-    if right { Some(is_done) } else { None }
-}
-
-#[test]
-fn a_refused_shrink_changes_nothing(rt: HostRuntime) -> Result<(), Fail> {
-    let (mut refused, mut done) = (false, false);
-    for size in 2..40 {
-        let heap = LocalHeap::new(rt.alloc(), size * 64)?;
-        let shrunk = is_shrunk(&heap, size % 2 == 0);
-        assert!(rt; shrunk.is_some(), "of {size}");
-        refused |= shrunk == Some(false);
-        done |= shrunk == Some(true);
-    }
-    assert!(rt; refused && done);
-    Ok(())
-}
-
 /// On a heap: whether twelve pairs fill it, and whether a shard without spare room shrinks to its pairs.
 fn is_full_and_shrinks(heap: &LocalHeap) -> (bool, bool) {
     let (mut shard, count) = packed(heap, 12);

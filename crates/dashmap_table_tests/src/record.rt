@@ -7,6 +7,5 @@ mod alone;
 mod beside;
 mod calls;
 mod doctored;
-mod heaps;
 mod threads;
 mod words;

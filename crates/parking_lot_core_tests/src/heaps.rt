@@ -1,10 +1,7 @@
-//! Each growth refused in turn, by heaps of all small sizes.
+//! Waits on a heap that is full.
 use linked_list_allocator::LocalHeap;
-use parking_lot_core::{
-    DEFAULT_PARK_TOKEN, FilterOp, Lot, LotFault, ParkingLot, RequeueOp, UnparkToken, deadlock,
-};
+use parking_lot_core::{DEFAULT_PARK_TOKEN, FilterOp, Lot, LotFault, RequeueOp, UnparkToken};
 use std::alloc::{AllocError, Global};
-use std::sync::Wait;
 use std::test::Fail;
 
 /// What fills the rest of a heap.
@@ -17,73 +14,6 @@ fn filling(alloc: Global, heap: &LocalHeap) -> Result<Vec<Box<u64, &LocalHeap>>,
         }
     }
     Ok(kept)
-}
-
-/// Registers up to four threads, and answers how many that were and what the next was refused for.
-fn registered(lot: &mut Lot<&LocalHeap>) -> (usize, Option<LotFault>) {
-    for number in 0..4usize {
-        match lot.register() {
-            Ok(thread) if thread == number => {}
-            Ok(_) => return (number, None),
-            Err(fault) => return (number, Some(fault)),
-        }
-    }
-    (4, None)
-}
-
-/// The same of participants.
-fn admitted<R: Wait>(lot: &ParkingLot<R, &LocalHeap>) -> (usize, Option<LotFault>) {
-    for number in 0..4usize {
-        match lot.thread_data() {
-            Ok(made) if made.thread_number() == number => {}
-            Ok(_) => return (number, None),
-            Err(fault) => return (number, Some(fault)),
-        }
-    }
-    (4, None)
-}
-
-#[test]
-fn a_refused_registration_leaves_the_number_free(rt: HostRuntime) -> Result<(), Fail> {
-    let mut refused = false;
-    for size in 0..60 {
-        let heap = LocalHeap::new(rt.alloc(), size * 16)?;
-        let Ok(spare) = Box::new(&heap, [0u64; 40]) else {
-            continue;
-        };
-        let mut lot = Lot::new(&heap, 5, 7)?;
-        let (count, fault) = registered(&mut lot);
-        if count < 4 {
-            refused = true;
-            let is_free = lot.status(count).is_none();
-            drop(spare);
-            let again = lot.register();
-            assert!(rt; (fault == Some(LotFault::NoMemory)) & is_free & (again == Ok(count)));
-        }
-    }
-    assert!(rt; refused);
-    Ok(())
-}
-
-#[test]
-fn a_refused_participant_leaves_the_number_free(rt: HostRuntime) -> Result<(), Fail> {
-    let mut refused = false;
-    for size in 0..100 {
-        let heap = LocalHeap::new(rt.alloc(), size * 16)?;
-        let Ok(spare) = Box::new(&heap, [0u64; 80]) else {
-            continue;
-        };
-        let lot = ParkingLot::new(rt, &heap, 5, 7)?;
-        let (count, fault) = admitted(&lot);
-        if count < 4 {
-            refused = true;
-            drop(spare);
-            let again = lot.thread_data()?.thread_number();
-            assert!(rt; (fault == Some(LotFault::NoMemory)) & (again == count));
-        }
-    }
-    assert!(rt; refused);
-    Ok(())
 }
 
 #[test]
@@ -113,24 +43,5 @@ fn waits_take_no_memory(rt: HostRuntime) -> Result<(), Fail> {
     let queue = lot.queue(6)?;
     let resources = lot.resources(0)?;
     assert!(rt; queue.is_empty() & (resources.as_slice() == [9].as_slice()));
-    Ok(())
-}
-
-#[test]
-fn a_refused_resource_is_not_recorded(rt: HostRuntime) -> Result<(), Fail> {
-    let heap = LocalHeap::new(rt.alloc(), 4096)?;
-    let mut lot = Lot::new(&heap, 3, 7)?;
-    let shared = ParkingLot::new(rt, &heap, 3, 8)?;
-    let thread = lot.register()?;
-    let mut me = shared.thread_data()?;
-    let full = filling(rt.alloc(), &heap)?;
-    let short = Err(LotFault::NoMemory);
-    let of_lot = lot.acquire_resource(thread, 9);
-    let of_thread = deadlock::acquire_resource(&mut me, 9);
-    assert!(rt; (of_lot == short) & (of_thread == short));
-    drop(full);
-    let resources = lot.resources(thread)?;
-    let of_thread = deadlock::resources(&me)?;
-    assert!(rt; resources.is_empty() & of_thread.is_empty());
     Ok(())
 }

@@ -1,0 +1,191 @@
+//! Guards that own an Arc of their lock: each such call clones the Arc first, and takes no lock where that is
+//! refused.
+
+use refusing_heap::{Case, Heap, Line, Said, Seen};
+use lock_api::{ArcGuard, Mutex, ReentrantMutex, RwLock};
+use lock_api_guards::Hold;
+use lock_api_spin::{PackedLock, PackedMutex, Parties};
+use std::rt::Clock;
+use std::sync::{Arc, Wait};
+use std::time::{Duration, Instant};
+
+/// How a lock that nobody has is asked for.
+#[derive(Clone, Copy)]
+pub enum Ask {
+    Waits,
+    Tries,
+    For,
+    Until,
+}
+
+/// A call on a lock of some kind.
+#[derive(Clone, Copy)]
+pub enum OfArc {
+    Locks(Ask),
+    /// A mutex whose holds nest.
+    Nests(Ask),
+    Reads(Ask),
+    Writes(Ask),
+    Upgrades(Ask),
+}
+
+type Mutual<'h, R> = Arc<Mutex<PackedMutex<R>, u64>, &'h Heap>;
+
+type Nested<'h, R> = Arc<ReentrantMutex<PackedMutex<R>, Parties, u64>, &'h Heap>;
+
+type Shared<'h, R> = Arc<RwLock<PackedLock<R>, u64>, &'h Heap>;
+
+fn short() -> Duration {
+    Duration::from_millis(1)
+}
+
+/// What came of a call that waits: a guard, which goes at once, or a refusal.
+fn waited<H: Hold, E: Drop>(guard: Result<ArcGuard<H>, E>) -> Said
+where
+    H::Runtime: Wait,
+{
+    match guard {
+        Ok(_guard) => Said::Done,
+        Err(_) => Said::Refused,
+    }
+}
+
+/// What came of a call that may give up.
+fn tried<H: Hold, E: Drop>(guard: Result<Option<ArcGuard<H>>, E>) -> Said
+where
+    H::Runtime: Wait,
+{
+    match guard {
+        Ok(Some(_guard)) => Said::Done,
+        Ok(None) => Said::Other,
+        Err(_) => Said::Refused,
+    }
+}
+
+fn lock<R: Wait + Clock + Drop>(rt: &R, lock: &Mutual<'_, R>, ask: Ask, now: Instant) -> Said {
+    match ask {
+        Ask::Waits => waited(Mutex::lock_arc(lock, &mut 1)),
+        Ask::Tries => tried(Mutex::try_lock_arc(lock)),
+        Ask::For => tried(Mutex::try_lock_arc_for(lock, short(), rt, &mut 1)),
+        Ask::Until => tried(Mutex::try_lock_arc_until(lock, now, rt, &mut 1)),
+    }
+}
+
+fn nest<R: Wait + Clock + Drop>(rt: &R, lock: &Nested<'_, R>, ask: Ask, now: Instant) -> Said {
+    match ask {
+        Ask::Waits => waited(ReentrantMutex::lock_arc(lock, &mut 1)),
+        Ask::Tries => tried(ReentrantMutex::try_lock_arc(lock, &mut 1)),
+        Ask::For => tried(ReentrantMutex::try_lock_arc_for(lock, short(), rt, &mut 1)),
+        Ask::Until => tried(ReentrantMutex::try_lock_arc_until(lock, now, rt, &mut 1)),
+    }
+}
+
+fn read<R: Wait + Clock + Drop>(rt: &R, lock: &Shared<'_, R>, ask: Ask, now: Instant) -> Said {
+    match ask {
+        Ask::Waits => waited(RwLock::read_arc(lock, &mut 1)),
+        Ask::Tries => tried(RwLock::try_read_arc(lock)),
+        Ask::For => tried(RwLock::try_read_arc_for(lock, short(), rt, &mut 1)),
+        Ask::Until => tried(RwLock::try_read_arc_until(lock, now, rt, &mut 1)),
+    }
+}
+
+fn write<R: Wait + Clock + Drop>(rt: &R, lock: &Shared<'_, R>, ask: Ask, now: Instant) -> Said {
+    match ask {
+        Ask::Waits => waited(RwLock::write_arc(lock, &mut 1)),
+        Ask::Tries => tried(RwLock::try_write_arc(lock)),
+        Ask::For => tried(RwLock::try_write_arc_for(lock, short(), rt, &mut 1)),
+        Ask::Until => tried(RwLock::try_write_arc_until(lock, now, rt, &mut 1)),
+    }
+}
+
+fn upgrade<R: Wait + Clock + Drop>(rt: &R, lock: &Shared<'_, R>, ask: Ask, now: Instant) -> Said {
+    match ask {
+        Ask::Waits => waited(RwLock::upgradable_read_arc(lock, &mut 1)),
+        Ask::Tries => tried(RwLock::try_upgradable_read_arc(lock)),
+        Ask::For => tried(RwLock::try_upgradable_read_arc_for(lock, short(), rt, &mut 1)),
+        Ask::Until => tried(RwLock::try_upgradable_read_arc_until(lock, now, rt, &mut 1)),
+    }
+}
+
+fn in_arc<T: Drop, E: Drop>(heap: &Heap, lock: Result<T, E>) -> Option<Arc<T, &Heap>> {
+    match lock {
+        Ok(lock) => Arc::new(heap, lock).ok(),
+        Err(_) => None,
+    }
+}
+
+fn on_mutex<R: Wait + Clock + Copy + Drop>(rt: R, heap: &Heap, ask: Ask) -> Option<Seen> {
+    let now = Instant::now(&rt).ok()?;
+    let mutex = in_arc(heap, Mutex::new(rt, 5))?;
+    let before = heap.asked();
+    lock(&rt, &mutex, ask, now).seen(heap, before, !mutex.is_locked())
+}
+
+fn on_nested<R: Wait + Clock + Copy + Drop>(rt: R, heap: &Heap, ask: Ask) -> Option<Seen> {
+    let now = Instant::now(&rt).ok()?;
+    let mutex = in_arc(heap, ReentrantMutex::new(rt, 2, 5))?;
+    let before = heap.asked();
+    nest(&rt, &mutex, ask, now).seen(heap, before, !mutex.is_locked())
+}
+
+fn on_lock<R: Wait + Clock + Copy + Drop>(rt: R, heap: &Heap, call: OfArc) -> Option<Seen> {
+    let now = Instant::now(&rt).ok()?;
+    let lock = in_arc(heap, RwLock::new(rt, 4, 5))?;
+    let before = heap.asked();
+    let said = match call {
+        OfArc::Reads(ask) => read(&rt, &lock, ask, now),
+        OfArc::Writes(ask) => write(&rt, &lock, ask, now),
+        OfArc::Upgrades(ask) => upgrade(&rt, &lock, ask, now),
+        _ => Said::Other,
+    };
+    said.seen(heap, before, !lock.is_locked())
+}
+
+impl<R: Wait + Clock + Copy + Drop> Case<R> for OfArc {
+    fn run(self, rt: R, heap: &Heap) -> Option<Seen> {
+        match self {
+            OfArc::Locks(ask) => on_mutex(rt, heap, ask),
+            OfArc::Nests(ask) => on_nested(rt, heap, ask),
+            _ => on_lock(rt, heap, self),
+        }
+    }
+}
+
+const NONE: &str = "takes none";
+
+pub const OF_MUTEX: &[Line<OfArc>] = &[
+    ("lock_arc", OfArc::Locks(Ask::Waits), NONE),
+    ("try_lock_arc", OfArc::Locks(Ask::Tries), NONE),
+    ("try_lock_arc_for", OfArc::Locks(Ask::For), NONE),
+    ("try_lock_arc_until", OfArc::Locks(Ask::Until), NONE),
+];
+
+pub const OF_NESTED: &[Line<OfArc>] = &[
+    ("lock_arc", OfArc::Nests(Ask::Waits), NONE),
+    ("try_lock_arc", OfArc::Nests(Ask::Tries), NONE),
+    ("try_lock_arc_for", OfArc::Nests(Ask::For), NONE),
+    ("try_lock_arc_until", OfArc::Nests(Ask::Until), NONE),
+];
+
+const WAITS: OfArc = OfArc::Upgrades(Ask::Waits);
+
+const TRIES: OfArc = OfArc::Upgrades(Ask::Tries);
+
+const FOR: OfArc = OfArc::Upgrades(Ask::For);
+
+const UNTIL: OfArc = OfArc::Upgrades(Ask::Until);
+
+pub const OF_LOCK: &[Line<OfArc>] = &[
+    ("read_arc", OfArc::Reads(Ask::Waits), NONE),
+    ("try_read_arc", OfArc::Reads(Ask::Tries), NONE),
+    ("try_read_arc_for", OfArc::Reads(Ask::For), NONE),
+    ("try_read_arc_until", OfArc::Reads(Ask::Until), NONE),
+    ("write_arc", OfArc::Writes(Ask::Waits), NONE),
+    ("try_write_arc", OfArc::Writes(Ask::Tries), NONE),
+    ("try_write_arc_for", OfArc::Writes(Ask::For), NONE),
+    ("try_write_arc_until", OfArc::Writes(Ask::Until), NONE),
+    ("upgradable_read_arc", WAITS, NONE),
+    ("try_upgradable_read_arc", TRIES, NONE),
+    ("try_upgradable_read_arc_for", FOR, NONE),
+    ("try_upgradable_read_arc_until", UNTIL, NONE),
+];

@@ -1,0 +1,121 @@
+//! The desk of a lock.
+
+use refusing_heap::{Case, Heap, Line, Said, Seen};
+use lock_api_desk::{Desk, DeskCall, DeskFault, DeskRunFault, TokenTable};
+
+type Small<'h> = Desk<TokenTable, u64, &'h Heap>;
+
+const LISTED: u64 = 12;
+
+/// A call on a desk that nobody has asked yet, by its name. An acquisition is by party 1 as guard 1.
+#[derive(Clone, Copy)]
+pub enum Call {
+    New,
+    Reserve,
+    Lock,
+    TryLock,
+    Read,
+    TryRead,
+    Write,
+    TryWrite,
+    UpgradableRead,
+    TryUpgradableRead,
+    /// A list of reads, as guards 1, 2, ..
+    Run,
+}
+
+/// Makes a call that isn't a list.
+fn made(desk: &mut Small<'_>, call: Call) -> Result<(), DeskFault> {
+    match call {
+        Call::Reserve => desk.reserve(9),
+        Call::Lock => desk.lock(1, 1),
+        Call::TryLock => desk.try_lock(1, 1),
+        Call::Read => desk.read(1, 1),
+        Call::TryRead => desk.try_read(1, 1),
+        Call::Write => desk.write(1, 1),
+        Call::TryWrite => desk.try_write(1, 1),
+        Call::UpgradableRead => desk.upgradable_read(1, 1),
+        Call::TryUpgradableRead => desk.try_upgradable_read(1, 1),
+        Call::New | Call::Run => Ok(()),
+    }
+}
+
+/// How many of the guards 1, 2, .. are held.
+fn held(desk: &Small<'_>) -> u64 {
+    let mut count = 0u64;
+    for guard in 1..LISTED + 1 {
+        if desk.held(guard).is_some() {
+            count = count.wrapping_add(1);
+        }
+    }
+    count
+}
+
+/// Whether nothing is held, and a writer is let in and out.
+fn is_free(desk: &mut Small<'_>) -> bool {
+    let is_let_in = held(desk) == 0 && desk.write(7, 70) == Ok(());
+    is_let_in && desk.unlock(7, 70) == Ok(())
+}
+
+/// Makes a call that isn't a list, and looks at the desk.
+fn ask(heap: &Heap, desk: &mut Small<'_>, call: Call, before: u64) -> Option<Seen> {
+    let said = made(desk, call);
+    let behind = heap.asked();
+    let is_short = said == Err(DeskFault::NoMemory) && is_free(desk);
+    let said = Said::of(said == Ok(()), is_short);
+    Seen::of(before, behind, said.fits(heap) && *desk.value() == 5)
+}
+
+/// What came of a list: as many reads as it tells were made and hold, and no others.
+fn of_run(desk: &Small<'_>, said: Result<(), DeskRunFault>) -> Said {
+    match said {
+        Ok(()) => Said::of(held(desk) == LISTED, false),
+        Err(fault) => {
+            let first = fault.place as u64;
+            let is_next = desk.held(first.saturating_add(1)).is_none();
+            let is_short = fault.fault == DeskFault::NoMemory;
+            Said::of(false, is_short && held(desk) == first && is_next)
+        }
+    }
+}
+
+/// Runs a list of reads on a new desk.
+fn run_reads(heap: &Heap) -> Option<Seen> {
+    let mut calls = Vec::new(heap);
+    for guard in 1..LISTED + 1 {
+        calls.push(DeskCall::Read(1, guard)).ok()?;
+    }
+    let before = heap.asked();
+    let mut desk: Small<'_> = Desk::new(heap, TokenTable::new(99), 5);
+    let said = desk.run(calls);
+    of_run(&desk, said).seen(heap, before, true)
+}
+
+impl<R: Drop> Case<R> for Call {
+    fn run(self, _rt: R, heap: &Heap) -> Option<Seen> {
+        if let Call::Run = self {
+            return run_reads(heap);
+        }
+        let before = heap.asked();
+        let mut desk: Small<'_> = Desk::new(heap, TokenTable::new(99), 5);
+        ask(heap, &mut desk, self, before)
+    }
+}
+
+const FREE: &str = "no guard, nobody kept out, the value";
+
+const BEFORE: &str = "the calls before it, and its place is told";
+
+pub const LINES: &[Line<Call>] = &[
+    ("new", Call::New, "takes none"),
+    ("reserve", Call::Reserve, FREE),
+    ("lock", Call::Lock, FREE),
+    ("try_lock", Call::TryLock, FREE),
+    ("read", Call::Read, FREE),
+    ("try_read", Call::TryRead, FREE),
+    ("write", Call::Write, FREE),
+    ("try_write", Call::TryWrite, FREE),
+    ("upgradable_read", Call::UpgradableRead, FREE),
+    ("try_upgradable_read", Call::TryUpgradableRead, FREE),
+    ("run, of 12 reads", Call::Run, BEFORE),
+];

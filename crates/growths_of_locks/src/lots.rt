@@ -1,0 +1,198 @@
+//! The lot, with threads and without, and the table of locks on it.
+
+use refusing_heap::{Case, Heap, Line, Said, Seen, listed, made};
+use parking_lot_core::{DEFAULT_PARK_TOKEN, Lot, LotFault, ParkingLot, SizeFault, deadlock};
+use parking_lot_rwlock::LockTable;
+use std::sync::Wait;
+
+/// A lot of threads in a heap.
+type Shared<'h, R> = ParkingLot<R, &'h Heap>;
+
+const MOST: usize = 40;
+
+/// A call on a lot.
+#[derive(Clone, Copy)]
+pub enum Call {
+    New,
+    /// Behind so many registrations.
+    Register(usize),
+    /// Of a thread that has three resources.
+    AcquireResource,
+    Resources,
+    Queue,
+}
+
+/// Registers so many threads, of which the first gets the resource 9 and waits under the key 5, and the second gets
+/// three.
+fn fill(lot: &mut Lot<&Heap>, threads: usize) -> Option<()> {
+    for thread in 0..threads {
+        lot.register().ok()?;
+        let last = if thread > 0 { 12 } else { 10 };
+        for key in 9..last {
+            lot.acquire_resource(thread, key).ok()?;
+        }
+    }
+    if threads > 0 {
+        lot.park(0, 5, || true, DEFAULT_PARK_TOKEN, false).ok()?;
+    }
+    Some(())
+}
+
+/// Whether a thread has so many resources.
+fn has(lot: &Lot<&Heap>, thread: usize, resources: usize) -> bool {
+    listed(lot.resources(thread), resources, LotFault::NoMemory) == Said::Done
+}
+
+fn make(lot: &mut Lot<&Heap>, call: Call) -> Said {
+    match call {
+        Call::Register(threads) => {
+            let said = lot.register();
+            let is_short = said == Err(LotFault::NoMemory) && lot.status(threads).is_none();
+            Said::of(said == Ok(threads), is_short)
+        }
+        Call::Resources => listed(lot.resources(0), 1, LotFault::NoMemory),
+        Call::Queue => listed(lot.queue(5), 1, LotFault::NoMemory),
+        Call::New | Call::AcquireResource => made(lot.acquire_resource(1, 8), LotFault::NoMemory),
+    }
+}
+
+/// Makes a call. A refused one is made again, and is answered then as if it hadn't been made before. A list may do
+/// with less memory than it asks for first.
+fn ask(heap: &Heap, lot: &mut Lot<&Heap>, call: Call) -> Option<Seen> {
+    let (threads, second) = match call {
+        Call::Register(threads) => (threads, 3),
+        Call::AcquireResource => (2, 4),
+        _ => (2, 3),
+    };
+    fill(lot, threads)?;
+    let before = heap.asked();
+    let said = make(lot, call);
+    let behind = heap.asked();
+    let fits = match call {
+        Call::Resources | Call::Queue => said.may_fit(heap),
+        _ => said.fits(heap),
+    };
+    let is_whole = fits && (said == Said::Done || make(lot, call) == Said::Done);
+    let is_kept = threads == 0 || (has(lot, 0, 1) && make(lot, Call::Queue) == Said::Done);
+    let is_right = is_whole && is_kept && (threads < 2 || has(lot, 1, second));
+    Seen::of(before, behind, is_right)
+}
+
+impl<R: Drop> Case<R> for Call {
+    fn run(self, _rt: R, heap: &Heap) -> Option<Seen> {
+        if let Call::New = self {
+            let before = heap.asked();
+            return made(Lot::new(heap, MOST, 7), SizeFault::NoMemory).seen(heap, before, true);
+        }
+        let mut lot = Lot::new(heap, MOST, 7).ok()?;
+        ask(heap, &mut lot, self)
+    }
+}
+
+/// A call on a lot of threads, or on a table of locks.
+#[derive(Clone, Copy)]
+pub enum SharedCall {
+    New,
+    /// Behind so many.
+    ThreadData(usize),
+    AcquireResource,
+    Resources,
+    LockTable,
+}
+
+fn admitted<R: Wait>(lot: &Shared<'_, R>) -> Result<usize, LotFault> {
+    match lot.thread_data() {
+        Ok(me) => Ok(me.thread_number()),
+        Err(fault) => Err(fault),
+    }
+}
+
+fn admit<R: Wait>(heap: &Heap, lot: &Shared<'_, R>, threads: usize) -> Option<Seen> {
+    for _ in 0..threads {
+        admitted(lot).ok()?;
+    }
+    let before = heap.asked();
+    let said = admitted(lot);
+    let behind = heap.asked();
+    let is_short = said == Err(LotFault::NoMemory) && admitted(lot) == Ok(threads);
+    let is_right = Said::of(said == Ok(threads), is_short).fits(heap);
+    Seen::of(before, behind, is_right)
+}
+
+/// Records a resource of a thread.
+fn note<R: Wait>(heap: &Heap, lot: &Shared<'_, R>) -> Option<Seen> {
+    let mut me = lot.thread_data().ok()?;
+    let before = heap.asked();
+    let said = made(deadlock::acquire_resource(&mut me, 9), LotFault::NoMemory);
+    let behind = heap.asked();
+    let count = if said == Said::Done { 1 } else { 0 };
+    let list = listed(deadlock::resources(&me), count, LotFault::NoMemory);
+    Seen::of(before, behind, said.fits(heap) && list == Said::Done)
+}
+
+/// Lists the resource of a thread, which may do with less memory than it asks for first.
+fn list<R: Wait>(heap: &Heap, lot: &Shared<'_, R>) -> Option<Seen> {
+    let mut me = lot.thread_data().ok()?;
+    deadlock::acquire_resource(&mut me, 9).ok()?;
+    let before = heap.asked();
+    let said = listed(deadlock::resources(&me), 1, LotFault::NoMemory);
+    let behind = heap.asked();
+    let again = listed(deadlock::resources(&me), 1, LotFault::NoMemory);
+    Seen::of(before, behind, said.may_fit(heap) && again == Said::Done)
+}
+
+/// Makes a table of three locks. A refused one has claimed no key of the lot, of which each lock has two.
+fn make_table<'h, R: Wait>(heap: &'h Heap, lot: &Shared<'h, R>) -> Option<Seen> {
+    let before = heap.asked();
+    let said = made(LockTable::new(heap, lot, 3), SizeFault::NoMemory);
+    let behind = heap.asked();
+    let wanted = if said == Said::Done { 6 } else { 0 };
+    let is_right = said.fits(heap) && lot.claim_keys(2) == wanted;
+    Seen::of(before, behind, is_right)
+}
+
+impl<R: Wait + Copy + Drop> Case<R> for SharedCall {
+    fn run(self, rt: R, heap: &Heap) -> Option<Seen> {
+        let before = heap.asked();
+        if let SharedCall::New = self {
+            let lot = ParkingLot::new(rt, heap, MOST, 7);
+            return made(lot, SizeFault::NoMemory).seen(heap, before, true);
+        }
+        let lot = ParkingLot::new(rt, heap, MOST, 7).ok()?;
+        match self {
+            SharedCall::ThreadData(threads) => admit(heap, &lot, threads),
+            SharedCall::AcquireResource => note(heap, &lot),
+            SharedCall::Resources => list(heap, &lot),
+            SharedCall::New | SharedCall::LockTable => make_table(heap, &lot),
+        }
+    }
+}
+
+const NUMBER: &str = "its number is free, and the next call has it; queues, resources";
+
+const OTHERS: &str = "resources, queues";
+
+const TABLE: &str = "no key of the lot is claimed";
+
+pub const LINES: &[Line<Call>] = &[
+    ("new", Call::New, "takes none"),
+    ("register, the first", Call::Register(0), NUMBER),
+    ("register, the second", Call::Register(1), NUMBER),
+    ("register, the 17th", Call::Register(16), NUMBER),
+    ("acquire_resource", Call::AcquireResource, OTHERS),
+    ("resources", Call::Resources, OTHERS),
+    ("queue", Call::Queue, OTHERS),
+];
+
+pub const SHARED: &[Line<SharedCall>] = &[
+    ("ParkingLot::new", SharedCall::New, "takes none"),
+    ("thread_data, the first", SharedCall::ThreadData(0), NUMBER),
+    ("thread_data, the 17th", SharedCall::ThreadData(16), NUMBER),
+    (
+        "deadlock::acquire_resource",
+        SharedCall::AcquireResource,
+        OTHERS,
+    ),
+    ("deadlock::resources", SharedCall::Resources, OTHERS),
+    ("LockTable::new", SharedCall::LockTable, TABLE),
+];

@@ -1,0 +1,121 @@
+//! Maps and views that are taken apart in parallel, and the calls of views.
+
+use crate::rows::{EACH, Map, Me, On, Row, Rows, Table, map_of, put};
+use dashmap_plain::clones::CloneView;
+use dashmap_plain::{Plain, ReadOnlyView};
+use dashmap_table::{MapFault, NoMemory, SpreadState};
+use lock_api_raw::{MakeLock, RawRwLock};
+use refusing_heap::{Heap, Line, Said, Seen, listed, made};
+use std::sync::Wait;
+use std::thread::Threads;
+
+/// A call on a view that has the keys 0 and 1, each with itself.
+#[derive(Clone, Copy)]
+pub enum Viewed {
+    Clone,
+    PlainClone,
+    MapCollect,
+    OwnedMapCollect,
+}
+
+type View<'h, Q> = ReadOnlyView<u64, u64, SpreadState, Q, &'h Heap>;
+
+fn two<'t, 'l, 'h, R: Wait>(
+    heap: &'h Heap,
+    table: &'t Table<'l, R>,
+    me: &mut Me,
+) -> Option<Map<'h, Row<'t, 'l, R>>> {
+    let map = map_of(heap, table).ok()?;
+    put(&map, 2, me);
+    Some(map)
+}
+
+/// Collects the keys of a map that goes. It may do with less memory than it asks for first.
+fn collect_owned<Q: RawRwLock + Drop, R: Threads + Sync>(
+    heap: &Heap,
+    rt: &R,
+    map: Map<'_, Q>,
+) -> Said {
+    let walk = Plain::into_par_iter(map);
+    listed(
+        walk.map_collect(rt, heap, |key: u64, _: u64| key),
+        2,
+        NoMemory,
+    )
+}
+
+pub fn collect_all<R: Wait + Threads + Sync + Send>(
+    heap: &Heap,
+    table: &Table<'_, R>,
+    me: &mut Me,
+) -> Option<Seen> {
+    let map = two(heap, table, me)?;
+    let before = heap.asked();
+    let said = collect_owned(heap, table.lot().runtime(), map);
+    Seen::of(before, heap.asked(), said.may_fit(heap) && table.are_free())
+}
+
+/// Collects the keys of a view that goes.
+fn collect_view<Q: RawRwLock + Drop, R: Threads + Sync>(
+    heap: &Heap,
+    rt: &R,
+    view: View<'_, Q>,
+) -> Said {
+    let walk = view.into_par_iter();
+    listed(
+        walk.map_collect(rt, heap, |key: u64, _: u64| key),
+        2,
+        NoMemory,
+    )
+}
+
+fn ask_view<Q: RawRwLock + MakeLock<T> + Drop, T: Copy + Drop, R: Threads + Sync>(
+    heap: &Heap,
+    table: T,
+    rt: &R,
+    view: &View<'_, Q>,
+    call: Viewed,
+) -> Option<Seen> {
+    let before = heap.asked();
+    let said = match call {
+        Viewed::Clone => made(CloneView::clone(view, table), MapFault::NoMemory),
+        Viewed::PlainClone => made(view.plain().clone(), NoMemory),
+        _ => {
+            let walk = view.par_iter();
+            let list = walk.map_collect(rt, heap, |key: &u64, _: &u64| *key);
+            listed(list, 2, NoMemory)
+        }
+    };
+    let behind = heap.asked();
+    let has_all = view.get(&0) == Some(&0) && view.get(&1) == Some(&1);
+    let is_right = said.may_fit(heap) && has_all && view.len() == 2;
+    Seen::of(before, behind, is_right)
+}
+
+/// Makes a call on a view, or collects the keys of one that goes.
+pub fn with_view<R: Wait + Threads + Sync + Send>(
+    heap: &Heap,
+    table: &Table<'_, R>,
+    me: &mut Me,
+    call: Viewed,
+) -> Option<Seen> {
+    let rt = table.lot().runtime();
+    let view = two(heap, table, me)?.into_read_only().ok()?;
+    if let Viewed::OwnedMapCollect = call {
+        let before = heap.asked();
+        let said = collect_view(heap, rt, view);
+        return Seen::of(before, heap.asked(), said.may_fit(heap));
+    }
+    ask_view(heap, table, rt, &view, call)
+}
+
+const COLLECT: On = On::View(Viewed::MapCollect);
+
+const COLLECT_ALL: On = On::View(Viewed::OwnedMapCollect);
+
+pub const VIEWS: &[Line<On>] = &[
+    ("ReadOnlyView::clone", On::View(Viewed::Clone), EACH),
+    ("PlainView::clone", On::View(Viewed::PlainClone), EACH),
+    ("par_iter().map_collect of a view", COLLECT, EACH),
+    ("into_par_iter().map_collect of it", COLLECT_ALL, "no list"),
+];

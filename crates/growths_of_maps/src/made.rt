@@ -1,0 +1,210 @@
+//! How maps and sets are made, over a table of locks whose rows are counted.
+
+use crate::rows::{On, Row, Table, are_taken, keys, pairs};
+use dashmap::set::DashSet;
+use dashmap_calls::Numbers;
+use dashmap_map::{DashMap, NewFault};
+use dashmap_plain::from_par_iter;
+use dashmap_table::{MapFault, SpreadState};
+use lock_api_raw::{MakeLock, RawRwLock};
+use refusing_heap::{Heap, Line, Said, Seen, made};
+use std::hash::RandomState;
+use std::random::RandomSource;
+
+/// How many rows a map or a set of one thread takes, and one that is asked for as many shards.
+const TAKEN: usize = 4;
+
+/// A constructor, by its name.
+#[derive(Clone, Copy)]
+pub enum Make {
+    New,
+    WithCapacity,
+    WithShards,
+    WithBoth,
+    By,
+    ByCapacity,
+    ByShards,
+    ByBoth,
+    Default,
+    Iter,
+    ParIter,
+}
+
+type Map<'h, S, Q> = Numbers<S, Q, &'h Heap>;
+
+type Set<'h, S, Q> = DashSet<u64, S, Q, &'h Heap>;
+
+type Made<M> = Result<M, MapFault>;
+
+/// Makes a map with its own hasher.
+fn new_map<'h, Q: RawRwLock + MakeLock<T> + Drop, T: Copy + Drop>(
+    heap: &'h Heap,
+    table: T,
+    make: Make,
+) -> Result<Map<'h, RandomState, Q>, NewFault>
+where
+    Q::Runtime: RandomSource,
+{
+    match make {
+        Make::New => DashMap::new(heap, 1, table),
+        Make::WithCapacity => DashMap::with_capacity(heap, 100, 1, table),
+        Make::WithShards => DashMap::with_shard_amount(heap, TAKEN, table),
+        _ => DashMap::with_capacity_and_shard_amount(heap, 100, TAKEN, table),
+    }
+}
+
+/// Makes an empty map with this hasher.
+fn map_by<'h, Q: RawRwLock + MakeLock<T> + Drop, T: Copy + Drop>(
+    heap: &'h Heap,
+    table: T,
+    make: Make,
+) -> Made<Map<'h, SpreadState, Q>> {
+    let by = SpreadState;
+    match make {
+        Make::By => DashMap::with_hasher(heap, by, 1, table),
+        Make::ByCapacity => DashMap::with_capacity_and_hasher(heap, 100, by, 1, table),
+        Make::ByShards => DashMap::with_hasher_and_shard_amount(heap, by, TAKEN, table),
+        Make::ByBoth => {
+            DashMap::with_capacity_and_hasher_and_shard_amount(heap, 100, by, TAKEN, table)
+        }
+        _ => DashMap::default(heap, by, 1, table),
+    }
+}
+
+fn map_of<'h, Q: RawRwLock + MakeLock<T> + Drop, T: Copy + Drop>(
+    heap: &'h Heap,
+    table: T,
+    make: Make,
+    pairs: Vec<(u64, u64), &'h Heap>,
+) -> Made<Map<'h, SpreadState, Q>> {
+    match make {
+        Make::Iter => DashMap::from_iter(heap, pairs.into_iter(), SpreadState, 1, table),
+        _ => from_par_iter(heap, pairs, SpreadState, 1, table),
+    }
+}
+
+/// Makes a map. The rows that it took stay used, of a refused one too.
+pub fn make_map<R: RandomSource>(heap: &Heap, table: &Table<'_, R>, make: Make) -> Option<Seen> {
+    let pairs = pairs(heap)?;
+    let before = heap.asked();
+    let said = match make {
+        Make::New | Make::WithCapacity | Make::WithShards | Make::WithBoth => {
+            let map: Result<Map<'_, RandomState, Row<'_, '_, R>>, NewFault> = new_map(
+                heap, table, make,
+            );
+            made(map, NewFault::Map(MapFault::NoMemory))
+        }
+        _ => {
+            let map: Made<Map<'_, SpreadState, Row<'_, '_, R>>> = match make {
+                Make::Iter | Make::ParIter => map_of(heap, table, make, pairs),
+                _ => map_by(heap, table, make),
+            };
+            made(map, MapFault::NoMemory)
+        }
+    };
+    said.seen(heap, before, are_taken(table, TAKEN))
+}
+
+fn new_set<'h, Q: RawRwLock + MakeLock<T> + Drop, T: Copy + Drop>(
+    heap: &'h Heap,
+    table: T,
+    make: Make,
+) -> Result<Set<'h, RandomState, Q>, NewFault>
+where
+    Q::Runtime: RandomSource,
+{
+    match make {
+        Make::New => DashSet::new(heap, 1, table),
+        _ => DashSet::with_capacity(heap, 100, 1, table),
+    }
+}
+
+fn set_by<'h, Q: RawRwLock + MakeLock<T> + Drop, T: Copy + Drop>(
+    heap: &'h Heap,
+    table: T,
+    make: Make,
+) -> Made<Set<'h, SpreadState, Q>> {
+    match make {
+        Make::By => DashSet::with_hasher(heap, SpreadState, 1, table),
+        Make::ByCapacity => DashSet::with_capacity_and_hasher(heap, 100, SpreadState, 1, table),
+        _ => DashSet::default(heap, SpreadState, 1, table),
+    }
+}
+
+fn set_of<'h, Q: RawRwLock + MakeLock<T> + Drop, T: Copy + Drop>(
+    heap: &'h Heap,
+    table: T,
+    make: Make,
+    keys: Vec<u64, &'h Heap>,
+) -> Made<Set<'h, SpreadState, Q>> {
+    match make {
+        Make::Iter => DashSet::from_iter(heap, keys.into_iter(), SpreadState, 1, table),
+        _ => DashSet::from_par_iter(heap, keys, SpreadState, 1, table),
+    }
+}
+
+/// Makes a set, as a map is made.
+pub fn make_set<R: RandomSource>(heap: &Heap, table: &Table<'_, R>, make: Make) -> Option<Seen> {
+    let keys = keys(heap)?;
+    let before = heap.asked();
+    let said = match make {
+        Make::New | Make::WithCapacity => {
+            let set: Result<Set<'_, RandomState, Row<'_, '_, R>>, NewFault> = new_set(
+                heap, table, make,
+            );
+            made(set, NewFault::Map(MapFault::NoMemory))
+        }
+        _ => {
+            let set: Made<Set<'_, SpreadState, Row<'_, '_, R>>> = match make {
+                Make::Iter | Make::ParIter => set_of(heap, table, make, keys),
+                _ => set_by(heap, table, make),
+            };
+            made(set, MapFault::NoMemory)
+        }
+    };
+    said.seen(heap, before, are_taken(table, TAKEN))
+}
+
+const ROWS: &str = "nothing is made; its rows of the table stay used";
+
+const ALL: &str = "with_capacity_and_hasher_and_shard_amount";
+
+pub const LINES: &[Line<On>] = &[
+    ("new", On::Make(Make::New), ROWS),
+    ("with_capacity", On::Make(Make::WithCapacity), ROWS),
+    ("with_shard_amount", On::Make(Make::WithShards), ROWS),
+    (
+        "with_capacity_and_shard_amount",
+        On::Make(Make::WithBoth),
+        ROWS,
+    ),
+    ("with_hasher", On::Make(Make::By), ROWS),
+    ("with_capacity_and_hasher", On::Make(Make::ByCapacity), ROWS),
+    (
+        "with_hasher_and_shard_amount",
+        On::Make(Make::ByShards),
+        ROWS,
+    ),
+    (ALL, On::Make(Make::ByBoth), ROWS),
+    ("default", On::Make(Make::Default), ROWS),
+    ("from_iter, of 20 pairs", On::Make(Make::Iter), ROWS),
+    ("from_par_iter, of 20 pairs", On::Make(Make::ParIter), ROWS),
+];
+
+pub const OF_SETS: &[Line<On>] = &[
+    ("new", On::MakeSet(Make::New), ROWS),
+    ("with_capacity", On::MakeSet(Make::WithCapacity), ROWS),
+    ("with_hasher", On::MakeSet(Make::By), ROWS),
+    (
+        "with_capacity_and_hasher",
+        On::MakeSet(Make::ByCapacity),
+        ROWS,
+    ),
+    ("default", On::MakeSet(Make::Default), ROWS),
+    ("from_iter, of 20 keys", On::MakeSet(Make::Iter), ROWS),
+    (
+        "from_par_iter, of 20 keys",
+        On::MakeSet(Make::ParIter),
+        ROWS,
+    ),
+];

@@ -1,0 +1,153 @@
+//! Calls on maps as data.
+
+use crate::rows::{EACH, Map, Me, On, PAIR, Row, Rows, Table, map_of};
+use dashmap_calls::{Answer, Call, Keyed, Many, Operator, Place, Try, Walk, make};
+use lock_api_raw::RawRwLock;
+use refusing_heap::{Heap, Line, Seen, refused_growth};
+use std::sync::Wait;
+
+/// A call on a map on which these were made before, and what it answers: where it is done; and where the first growth
+/// is refused, the second, .., and behind the last of these alike.
+#[derive(Clone, Copy)]
+pub struct OnMap<'a>(&'a [Call], Call, Answer, &'a [Answer]);
+
+/// The item of such a list for this growth, of which the first is 1; and this one for 0, where none is refused.
+pub fn wanted<T: Copy>(done: T, refused: &[T], growth: u64) -> T {
+    let mut wanted = done;
+    for number in 0..refused.len() {
+        if (number as u64) < growth {
+            wanted = refused[number];
+        }
+    }
+    wanted
+}
+
+/// More keys than are used.
+const KEYS: u64 = 64;
+
+/// How many pairs there are, and a number that tells of all of them.
+fn pairs_of<Q: RawRwLock>(map: &Map<'_, Q>, me: &mut Q::Party) -> (u64, u64)
+where
+    Q::Runtime: Wait,
+{
+    let mut sum = 0u64;
+    for key in 0..KEYS {
+        sum = sum.wrapping_mul(31);
+        if let Answer::Number(value) = make(map, Call::Key(Keyed::View(key)), me) {
+            sum = sum.wrapping_add(value).wrapping_add(1);
+        }
+    }
+    (map.len(me) as u64, sum)
+}
+
+/// Makes the call, and compares what stands: first that no shard is held, since who asks for one that is,
+/// waits.
+fn look<Q: RawRwLock, T: Rows + Drop>(
+    heap: &Heap,
+    table: T,
+    map: &Map<'_, Q>,
+    me: &mut Q::Party,
+    call: OnMap<'_>,
+) -> Option<Seen>
+where
+    Q::Runtime: Wait,
+{
+    let OnMap(others, call, done, refused) = call;
+    for other in others {
+        let _answer = make(map, *other, me);
+    }
+    let pairs = pairs_of(map, me);
+    let before = heap.asked();
+    let answer = make(map, call, me);
+    let behind = heap.asked();
+    let growth = refused_growth(heap, before);
+    let is_so = table.are_free() && answer == wanted(done, refused, growth);
+    let is_kept = is_so && (growth == 0 || pairs_of(map, me) == pairs);
+    Seen::of(before, behind, is_kept)
+}
+
+/// Makes the call on a new map.
+pub fn ask_map<R: Wait>(
+    heap: &Heap,
+    table: &Table<'_, R>,
+    me: &mut Me,
+    call: OnMap<'_>,
+) -> Option<Seen> {
+    let map: Map<'_, Row<'_, '_, R>> = map_of(heap, table).ok()?;
+    look(heap, table, &map, me, call)
+}
+
+const NEW: &[Call] = &[];
+
+const TWO: &[Call] = &[Call::Many(Many::Insert(0, 2, 0))];
+
+const FULL: &[Call] = &[Call::Many(Many::Insert(0, 28, 0))];
+
+const ROOM: &[Call] = &[
+    Call::Many(Many::Insert(0, 40, 0)),
+    Call::Many(Many::Remove(2, 40, 0)),
+];
+
+const PUT: Call = Call::Key(Keyed::Insert(1, 9));
+
+const PUT_LAST: Call = Call::Key(Keyed::Insert(28, 9));
+
+const SHL: Call = Call::Operator(Operator::Shl(1, 9));
+
+const ENTRY: Call = Call::Entry(1, Place::OrInsert(9));
+
+const TRY: Call = Call::Try(Try::Entry(1));
+
+const ITER: Call = Call::Walk(Walk::Iter(0));
+
+const ITER_MUT: Call = Call::Walk(Walk::IterMut(1));
+
+const NONE: Answer = Answer::Absent;
+
+const ONE: Answer = Answer::Number(1);
+
+const BACK: &[Answer] = &[Answer::Back(1, 9)];
+
+const LAST_BACK: &[Answer] = &[Answer::Back(28, 9)];
+
+const KEY_BACK: &[Answer] = &[Answer::Refused(1)];
+
+const MET: Answer = Answer::Three(2, 1, 2);
+
+const STOPS: &[Answer] = &[Answer::Refused(0), Answer::Refused(1)];
+
+const YES: Answer = Answer::Flag(true);
+
+const NO: &[Answer] = &[Answer::Flag(false)];
+
+const KEY: &str = "the key comes back; no pair; no hold";
+
+const ITEMS: &str = "the items before it; the walk is over; no hold";
+
+const TAKES_NONE: &str = "takes none";
+
+const INTO_NEW: On = On::Map(OnMap(NEW, PUT, NONE, BACK));
+
+const INTO_FULL: On = On::Map(OnMap(FULL, PUT_LAST, NONE, LAST_BACK));
+
+const PRESENT: On = On::Map(OnMap(TWO, PUT, ONE, &[]));
+
+const ENTERED: On = On::Map(OnMap(NEW, ENTRY, Answer::Number(9), KEY_BACK));
+
+const READ: On = On::Map(OnMap(TWO, ITER, MET, STOPS));
+
+const WRITTEN: On = On::Map(OnMap(TWO, ITER_MUT, Answer::Number(2), &[]));
+
+const SHRUNK: On = On::Map(OnMap(ROOM, Call::ShrinkToFit, YES, NO));
+
+pub const LINES: &[Line<On>] = &[
+    ("insert, into a new shard", INTO_NEW, PAIR),
+    ("insert, into a full shard", INTO_FULL, PAIR),
+    ("insert, of a key that is there", PRESENT, TAKES_NONE),
+    ("<<", On::Map(OnMap(NEW, SHL, NONE, BACK)), PAIR),
+    ("entry", ENTERED, KEY),
+    ("try_entry", On::Map(OnMap(NEW, TRY, ONE, KEY_BACK)), KEY),
+    ("iter, two items", READ, ITEMS),
+    ("iter_mut, two items", WRITTEN, TAKES_NONE),
+    ("shrink_to_fit", SHRUNK, EACH),
+];

@@ -1,0 +1,288 @@
+//! Calls of a map's owner, clones, calls that wait up to a moment, parallel forms of a shared map, and an entry whose
+//! key takes memory to be cloned.
+
+use crate::costly::Costly;
+use crate::rows::{
+    EACH, FROM, MIDDLE, Map, Me, On, PAIR, Row, Rows, SHARDS, TO, Table, Team, are_taken, count,
+    map_of, pairs, put,
+};
+use dashmap_calls::{Answer, Call, Keyed, make};
+use dashmap_map::{DashMap, UntilFault};
+use dashmap_parallel::{ParExtendFault, ParallelMap, par_extend_shared};
+use dashmap_plain::clones::CloneMap;
+use dashmap_plain::par_extend;
+use dashmap_table::{MapFault, NoMemory, SpreadState};
+use lock_api_raw::{MakeLock, RawRwLock};
+use refusing_heap::{Heap, Line, Said, Seen, listed, made, refused_growth};
+use std::rt::Clock;
+use std::sync::Wait;
+use std::thread::Threads;
+use std::time::Instant;
+
+/// A call on a map that is empty, or has the keys 0 and 1, each with itself.
+#[derive(Clone, Copy)]
+pub enum Owned {
+    InsertMut,
+    InsertUntil,
+    TryReserve,
+    Clone,
+    /// By two threads.
+    MapCollect,
+    /// Of the keys from 10 to below 30, each with itself.
+    Extend,
+    /// The same.
+    ParExtend,
+    /// The same, by two threads.
+    ParExtendShared,
+}
+
+/// What a call answers, as far as it is looked for in the map.
+#[derive(Clone, Copy)]
+enum Came {
+    /// Of an insertion of the key 5 with 7.
+    Inserted(Result<Option<u64>, (u64, u64)>),
+    Extended(Result<(), (u64, u64)>),
+    Shared(Result<(), ParExtendFault>),
+    Other(Said),
+}
+
+/// How many pairs more a shard is asked to have room for.
+const MORE: usize = 100;
+
+fn inserted(value: Answer, said: Result<Option<u64>, (u64, u64)>) -> Said {
+    let is_done = said == Ok(None) && value == Answer::Number(7);
+    Said::of(is_done, said == Err((5, 7)) && value == Answer::Absent)
+}
+
+/// What came of an extension, so many pairs of which are there: the pairs before the one that came back have to be
+/// there, and no others of it.
+fn extended<Q: RawRwLock>(
+    map: &Map<'_, Q>,
+    put: u64,
+    said: Result<(), (u64, u64)>,
+    me: &mut Q::Party,
+) -> Said
+where
+    Q::Runtime: Wait,
+{
+    let end = FROM.saturating_add(put);
+    let is_right = count(map, FROM, end, me) == put;
+    let is_back = said == Err((end, end)) && end < TO;
+    Said::of(is_right && said == Ok(()) && end == TO, is_right && is_back)
+}
+
+/// Compares what came of a call with what the map has: the keys that were there, and of an extension so many more. Of
+/// a shared one any may be there.
+fn compared<Q: RawRwLock>(map: &Map<'_, Q>, came: Came, me: &mut Q::Party) -> Said
+where
+    Q::Runtime: Wait,
+{
+    let put = count(map, FROM, TO, me);
+    let is_whole = map.len(me) as u64 == put.saturating_add(2) && count(map, 0, 2, me) == 2;
+    match came {
+        Came::Inserted(said) => inserted(make(map, Call::Key(Keyed::View(5)), me), said),
+        Came::Extended(said) if is_whole => extended(map, put, said, me),
+        Came::Shared(said) if is_whole => {
+            let is_short = said == Err(ParExtendFault::NoMemory) && put < 20;
+            Said::of(said == Ok(()) && put == 20, is_short)
+        }
+        Came::Other(said) if is_whole => said,
+        _ => Said::Other,
+    }
+}
+
+/// Asks for room, of which a shard takes two growths. Where a growth of the second is refused the first one keeps its
+/// room, and else no room is there.
+fn try_reserve<Q: RawRwLock>(heap: &Heap, map: &mut Map<'_, Q>, me: &mut Q::Party) -> Said
+where
+    Q::Runtime: Wait,
+{
+    let (room, before) = (map.capacity(me), heap.asked());
+    let is_done = map.try_reserve(MORE).is_ok();
+    let (now, growth) = (map.capacity(me), refused_growth(heap, before));
+    let is_kept = if growth > 2 { now >= MORE } else { now == room };
+    Said::of(is_done && now >= 2 * MORE, !is_done && is_kept)
+}
+
+fn collect<Q: RawRwLock + Sync, R: Threads + Sync>(
+    heap: &Heap,
+    rt: &R,
+    map: &Map<'_, Q>,
+    tds: &mut [Q::Party],
+) -> Said
+where
+    Q::Runtime: Wait,
+    Q::Party: Send,
+{
+    match map.par_iter(tds) {
+        Ok(walk) => {
+            let list = walk.map_collect(rt, heap, |key: &u64, _: &u64| *key);
+            listed(list, 2, NoMemory)
+        }
+        Err(_) => Said::Other,
+    }
+}
+
+/// Makes a call that takes no thread but this one.
+fn make_call<Q: RawRwLock + MakeLock<T> + Drop, T: Copy + Drop>(
+    heap: &Heap,
+    table: T,
+    map: &mut Map<'_, Q>,
+    me: &mut Q::Party,
+    call: Owned,
+) -> Came
+where
+    Q::Runtime: Wait,
+{
+    match call {
+        Owned::InsertMut => Came::Inserted(map.insert_mut(5, 7)),
+        Owned::TryReserve => Came::Other(try_reserve(heap, map, me)),
+        _ => Came::Other(made(CloneMap::clone(map, table, me), MapFault::NoMemory)),
+    }
+}
+
+/// Makes an extension. Answers how many growths were asked for before, too.
+fn extend<'h, Q: RawRwLock + Sync, R: Threads + Sync>(
+    heap: &'h Heap,
+    rt: &R,
+    map: &mut Map<'h, Q>,
+    tds: &mut [Q::Party],
+    call: Owned,
+) -> Option<(u64, Came)>
+where
+    Q::Runtime: Wait,
+    Q::Party: Send,
+{
+    let pairs = pairs(heap)?;
+    let before = heap.asked();
+    let came = match call {
+        Owned::Extend => Came::Extended(map.extend(pairs.into_iter())),
+        Owned::ParExtend => Came::Extended(par_extend(map, pairs)),
+        _ => Came::Shared(par_extend_shared(map, rt, pairs, tds)),
+    };
+    Some((before, came))
+}
+
+/// Inserts up to a moment that has come.
+fn insert_until<R: Wait + Clock>(
+    rt: &R,
+    map: &Map<'_, Row<'_, '_, R>>,
+    me: &mut Me,
+    moment: Instant,
+) -> Came {
+    match map.insert_until(5, 7, moment, rt, me) {
+        Ok(old) => Came::Inserted(Ok(old)),
+        Err(UntilFault::NoMemory(pair)) => Came::Inserted(Err(pair)),
+        Err(UntilFault::Locked(_)) => Came::Other(Said::Other),
+    }
+}
+
+/// Makes the call on an empty map, behind the insertions that it needs. What stands is looked at where no shard is
+/// held, since who asks for one that is waits.
+pub fn ask_owner<R: Wait + Threads + Clock + Sync + Send>(
+    heap: &Heap,
+    table: &Table<'_, R>,
+    team: &mut Team,
+    call: Owned,
+) -> Option<Seen> {
+    let rt = table.lot().runtime();
+    let now = Instant::now(rt).ok()?;
+    let mut map: Map<'_, Row<'_, '_, R>> = map_of(heap, table).ok()?;
+    let is_empty = matches!(call, Owned::InsertMut | Owned::InsertUntil);
+    put(&map, if is_empty { 0 } else { 2 }, &mut team.me);
+    let before = heap.asked();
+    let (before, came) = match call {
+        Owned::Extend | Owned::ParExtend | Owned::ParExtendShared => {
+            extend(heap, rt, &mut map, &mut team.others, call)?
+        }
+        Owned::InsertUntil => (before, insert_until(rt, &map, &mut team.me, now)),
+        Owned::MapCollect => (
+            before,
+            Came::Other(collect(heap, rt, &map, &mut team.others)),
+        ),
+        _ => (before, make_call(heap, table, &mut map, &mut team.me, call)),
+    };
+    let behind = heap.asked();
+    let rows = if let Owned::Clone = call { 4 } else { 2 };
+    let stands = are_taken(table, rows) && compared(&map, came, &mut team.me).fits(heap);
+    Seen::of(before, behind, stands)
+}
+
+type Entries<'h, Q> = DashMap<Costly<'h>, u64, SpreadState, Q, &'h Heap>;
+
+/// What came of an insertion of 7 at the place of a new key that stays there: it clones the key. A refused entry
+/// still has its key, and the value comes back.
+fn enter<'h, Q: RawRwLock>(map: &Entries<'h, Q>, key: Costly<'h>, me: &mut Q::Party) -> Said
+where
+    Q::Runtime: Wait,
+{
+    let number = key.number();
+    match map.entry(key, me) {
+        Ok(entry) => match entry.insert_entry(7) {
+            Ok(entry) => Said::of(*entry.get() == 7, false),
+            Err(back) => Said::of(false, back.1 == 7 && back.0.key().number() == number),
+        },
+        Err(_key) => Said::Other,
+    }
+}
+
+/// Makes the call on a map that has another key of the same shard, so there is room for one more.
+fn ask_entries<'h, Q: RawRwLock, T: Rows + Drop>(
+    heap: &'h Heap,
+    table: T,
+    map: &Entries<'h, Q>,
+    me: &mut Q::Party,
+) -> Option<Seen>
+where
+    Q::Runtime: Wait,
+{
+    map.insert(Costly::new(heap, 1), 0, me).ok()?;
+    let before = heap.asked();
+    let said = enter(map, Costly::new(heap, 3), me);
+    let length = if said == Said::Done { 2 } else { 1 };
+    said.seen(heap, before, table.are_free() && map.len(me) == length)
+}
+
+pub fn insert_entry<R: Wait>(heap: &Heap, table: &Table<'_, R>, me: &mut Me) -> Option<Seen> {
+    let map: Entries<'_, Row<'_, '_, R>> = DashMap::with_hasher_and_shard_amount(
+        heap,
+        SpreadState,
+        SHARDS,
+        table,
+    ).ok()?;
+    ask_entries(heap, table, &map, me)
+}
+
+const ROOM: &str = "each pair; room of earlier shards";
+
+const ROWS: &str = "each pair; no hold; rows of the table stay used";
+
+const PUT: &str = "pairs that were put in; no hold";
+
+const RESERVED: On = On::Owned(Owned::TryReserve);
+
+const BY_ALL: On = On::Owned(Owned::ParExtend);
+
+const SHARED: On = On::Owned(Owned::ParExtendShared);
+
+const COLLECTED: On = On::Owned(Owned::MapCollect);
+
+const STANDS: &str = "entry and value come back; each other pair; no hold";
+
+const CALL: &str = "entry(..).insert_entry";
+
+pub const LINES: &[Line<On>] = &[
+    (CALL, On::InsertEntry, STANDS),
+    ("insert_mut", On::Owned(Owned::InsertMut), PAIR),
+    ("insert_until", On::Owned(Owned::InsertUntil), PAIR),
+    ("try_reserve, two shards", RESERVED, ROOM),
+    ("extend, 20 pairs", On::Owned(Owned::Extend), MIDDLE),
+    ("par_extend, 20 pairs", BY_ALL, MIDDLE),
+    ("clone", On::Owned(Owned::Clone), ROWS),
+];
+
+pub const FORMS: &[Line<On>] = &[
+    ("par_extend_shared, 20 pairs", SHARED, PUT),
+    ("par_iter().map_collect", COLLECTED, EACH),
+    ("into_par_iter().map_collect", On::Collect, "no list"),
+];

@@ -1,0 +1,214 @@
+//! Calls on maps, sets and recorded maps, each over rows of a new table of locks.
+
+use crate::forms::{Viewed, collect_all, with_view};
+use crate::made::{Make, make_map, make_set};
+use crate::maps::{OnMap, ask_map};
+use crate::owners::{Owned, ask_owner, insert_entry};
+use crate::records::{OnRecord, gather_twelve, make_record, with_record};
+use crate::sets::{OnSet, with_set};
+use dashmap_calls::{Answer, Call, Many, Numbers, make as answer};
+use dashmap_map::DashMap;
+use dashmap_table::{MapFault, SpreadState};
+use lock_api_raw::{MakeLock, RawRwLock};
+use parking_lot_core::{ParkingLot, ThreadData};
+use parking_lot_rwlock::{self as running, LockTable};
+use refusing_heap::{Heap, Line, Refusal, RefusingHeap, Seen, Wrong, print_line};
+use std::alloc::{Allocator, Global};
+use std::random::RandomSource;
+use std::rt::Clock;
+use std::sync::Wait;
+use std::thread::Threads;
+
+pub type Table<'l, R> = LockTable<'l, R>;
+
+pub type Me = ThreadData;
+
+/// The lock of a shard.
+pub type Row<'t, 'l, R> = running::RawRwLock<'t, 'l, R, 0, Global>;
+
+pub type Map<'h, Q> = Numbers<SpreadState, Q, &'h Heap>;
+
+const ROWS: usize = 16;
+
+pub const SHARDS: usize = 2;
+
+pub const PAIR: &str = "the pair comes back; each other pair; no hold";
+
+pub const MIDDLE: &str = "the pair comes back; those before it; none behind it";
+
+pub const EACH: &str = "each pair; no hold";
+
+pub const FROM: u64 = 10;
+
+pub const TO: u64 = 30;
+
+/// A thread, and two others for parallel forms.
+#[derive(Drop)]
+pub struct Team {
+    pub me: ThreadData,
+    pub others: Vec<ThreadData>,
+}
+
+#[derive(Clone, Copy)]
+pub enum On {
+    Make(Make),
+    MakeSet(Make),
+    Map(OnMap<'static>),
+    Owned(Owned),
+    /// Of an entry whose key is a text.
+    InsertEntry,
+    /// `map_collect` of a map that goes.
+    Collect,
+    View(Viewed),
+    Set(OnSet),
+    Record(OnRecord<'static>),
+    MakeRecord,
+    Gather,
+}
+
+/// The pairs of an extension, each key with itself.
+pub fn pairs<A: Allocator>(alloc: A) -> Option<Vec<(u64, u64), A>> {
+    let mut pairs = Vec::new(alloc);
+    for key in FROM..TO {
+        pairs.push((key, key)).ok()?;
+    }
+    Some(pairs)
+}
+
+pub fn keys<A: Allocator>(alloc: A) -> Option<Vec<u64, A>> {
+    let mut keys = Vec::new(alloc);
+    for key in FROM..TO {
+        keys.push(key).ok()?;
+    }
+    Some(keys)
+}
+
+pub fn map_of<'h, Q: RawRwLock + MakeLock<T> + Drop, T: Copy + Drop>(
+    heap: &'h Heap,
+    table: T,
+) -> Result<Map<'h, Q>, MapFault> {
+    DashMap::with_hasher_and_shard_amount(heap, SpreadState, SHARDS, table)
+}
+
+/// Puts in so many of the keys 0, 1, .., each with itself.
+pub fn put<Q: RawRwLock>(map: &Map<'_, Q>, keys: u64, me: &mut Q::Party)
+where
+    Q::Runtime: Wait,
+{
+    let _all = answer(map, Call::Many(Many::Insert(0, keys, 0)), me);
+}
+
+/// How many of the keys from one number to below another are there, each with itself.
+pub fn count<Q: RawRwLock>(map: &Map<'_, Q>, from: u64, to: u64, me: &mut Q::Party) -> u64
+where
+    Q::Runtime: Wait,
+{
+    match answer(map, Call::Many(Many::View(from, to, 0)), me) {
+        Answer::Number(count) => count,
+        _ => 0,
+    }
+}
+
+/// A table of locks whose rows are looked at.
+pub trait Rows: Copy {
+    /// Whether each word is 0, so nobody holds a shard or waits for one.
+    fn are_free(self) -> bool;
+}
+
+impl<R> Rows for &Table<'_, R> {
+    fn are_free(self) -> bool {
+        let mut free = true;
+        for row in 0..ROWS {
+            free &= self.word(row) == Some(0);
+        }
+        free
+    }
+}
+
+/// Whether so many rows are taken, none of which is held. One more is taken then.
+pub fn are_taken<R>(table: &Table<'_, R>, rows: usize) -> bool {
+    match table.claim() {
+        Ok(row) => table.are_free() && row.number() == rows,
+        Err(_) => false,
+    }
+}
+
+fn ask<R: Wait + Threads + Clock + RandomSource + Sync + Send>(
+    heap: &Heap,
+    table: &Table<'_, R>,
+    team: &mut Team,
+    call: On,
+) -> Option<Seen> {
+    match call {
+        On::Make(call) => make_map(heap, table, call),
+        On::MakeSet(call) => make_set(heap, table, call),
+        On::InsertEntry => insert_entry(heap, table, &mut team.me),
+        On::Collect => collect_all(heap, table, &mut team.me),
+        On::View(call) => with_view(heap, table, &mut team.me, call),
+        On::Set(call) => with_set(heap, table, team, call),
+        On::MakeRecord => make_record(heap, table),
+        On::Gather => gather_twelve(heap, table, &mut team.me),
+        On::Record(call) => with_record(heap, table, &mut team.me, call),
+        On::Map(call) => ask_map(heap, table, &mut team.me, call),
+        On::Owned(call) => ask_owner(heap, table, team, call),
+    }
+}
+
+/// Makes a call over a table, by a thread or two others.
+fn over<R: Wait + Threads + Clock + RandomSource + Sync + Send>(
+    heap: &Heap,
+    table: &Table<'_, R>,
+    call: On,
+) -> Option<Seen> {
+    let lot = table.lot();
+    let me = lot.thread_data().ok()?;
+    let others = Vec::new(*heap.inner());
+    let mut team = Team { me, others };
+    team.others.push(lot.thread_data().ok()?).ok()?;
+    team.others.push(lot.thread_data().ok()?).ok()?;
+    ask(heap, table, &mut team, call)
+}
+
+fn run<R: Wait + Threads + Clock + RandomSource + Sync + Send + Copy + Drop>(
+    rt: R,
+    heap: &Heap,
+    call: On,
+) -> Option<Seen> {
+    let lot = ParkingLot::new(rt, *heap.inner(), 3, 7).ok()?;
+    let table = LockTable::new(*heap.inner(), &lot, ROWS).ok()?;
+    over(heap, &table, call)
+}
+
+/// As `make_in_turn`. These calls are no `Case`, since what some send to threads rests on bounds that a case hasn't.
+fn run_in_turn<R: Wait + Threads + Clock + RandomSource + Sync + Send + Copy + Drop>(
+    rt: R,
+    alloc: Global,
+    call: On,
+) -> Result<u64, Wrong> {
+    let seen = run(rt, &RefusingHeap::new(alloc, Refusal::Never), call).ok_or(Wrong::Unprepared)?;
+    if !seen.stood {
+        return Err(Wrong::Ample);
+    }
+    let growths = seen.behind.saturating_sub(seen.before);
+    for growth in 0..growths {
+        let number = seen.before.saturating_add(growth).saturating_add(1);
+        let heap = RefusingHeap::new(alloc, Refusal::Once(number));
+        let stood = run(rt, &heap, call).ok_or(Wrong::Unprepared)?.stood;
+        if !stood || heap.refused() != 1 {
+            return Err(Wrong::Refused(growth.saturating_add(1)));
+        }
+    }
+    Ok(growths)
+}
+
+pub fn print_rows<
+    R: AllocGlobal + Print + Wait + Threads + Clock + RandomSource + Copy + Send + Sync + Drop,
+>(rt: R, of: &str, lines: &[Line<On>]) -> bool {
+    let mut all = true;
+    for &(call, case, stands) in lines {
+        let said = run_in_turn(rt, rt.alloc(), case);
+        let is_right = said.is_ok();
+        all &= print_line(rt, of, call, said, stands).is_ok() && is_right;
+    }
+    all
+}
