@@ -10,8 +10,15 @@ mod sale;
 mod timed;
 mod turns;
 
-/// What comes of each.
-pub fn run_all(rt: HostRuntime) -> Result<(), anyhow::Error> {
+use std::rt::Clock;
+use std::sync::Wait;
+use std::thread::Threads;
+
+/// Runs one after another, and prints what comes of each.
+pub fn run_all<R>(rt: R) -> Result<(), anyhow::Error>
+where
+    R: AllocGlobal + Print + Wait + Threads + Clock + Sync + Copy + Drop,
+{
     let (visits, beside) = counter::run(rt, rt.alloc())?;
     println!(rt; "counter: {visits} visits, a try beside a guard gives {beside:?}")?;
     let (put, taken, sum) = queue::run(rt, rt.alloc())?;

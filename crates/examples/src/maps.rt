@@ -6,8 +6,15 @@ mod interner;
 mod metrics;
 mod registry;
 
-/// What comes of each.
-pub fn run_all(rt: HostRuntime) -> Result<(), anyhow::Error> {
+use std::random::RandomSource;
+use std::sync::Wait;
+use std::thread::Threads;
+
+/// Runs one after another, and prints what comes of each.
+pub fn run_all<R>(rt: R) -> Result<(), anyhow::Error>
+where
+    R: AllocGlobal + Print + Wait + Threads + RandomSource + Sync + Copy + Drop,
+{
     let (low, high, kept, left) = cache::run(rt, rt.alloc())?;
     println!(rt; "cache: sums {low} and {high}, {kept} kept, {left} left")?;
     let (open, all, some) = registry::run(rt, rt.alloc())?;
