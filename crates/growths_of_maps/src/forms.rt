@@ -69,6 +69,25 @@ fn collect_view<Q: RawRwLock + Drop, R: Threads + Sync>(
     )
 }
 
+/// What came of a call on a view.
+fn say_view<Q: RawRwLock + MakeLock<T> + Drop, T: Copy + Drop, R: Threads + Sync>(
+    heap: &Heap,
+    table: T,
+    rt: &R,
+    view: &View<'_, Q>,
+    call: Viewed,
+) -> Said {
+    match call {
+        Viewed::Clone => made(CloneView::clone(view, table), MapFault::NoMemory),
+        Viewed::PlainClone => made(view.plain().clone(), NoMemory),
+        _ => {
+            let walk = view.par_iter();
+            let list = walk.map_collect(rt, heap, |key: &u64, _: &u64| *key);
+            listed(list, 2, NoMemory)
+        }
+    }
+}
+
 fn ask_view<Q: RawRwLock + MakeLock<T> + Drop, T: Copy + Drop, R: Threads + Sync>(
     heap: &Heap,
     table: T,
@@ -77,19 +96,23 @@ fn ask_view<Q: RawRwLock + MakeLock<T> + Drop, T: Copy + Drop, R: Threads + Sync
     call: Viewed,
 ) -> Option<Seen> {
     let before = heap.asked();
-    let said = match call {
-        Viewed::Clone => made(CloneView::clone(view, table), MapFault::NoMemory),
-        Viewed::PlainClone => made(view.plain().clone(), NoMemory),
-        _ => {
-            let walk = view.par_iter();
-            let list = walk.map_collect(rt, heap, |key: &u64, _: &u64| *key);
-            listed(list, 2, NoMemory)
-        }
-    };
+    let said = say_view(heap, table, rt, view, call);
     let behind = heap.asked();
     let has_all = view.get(&0) == Some(&0) && view.get(&1) == Some(&1);
     let is_right = said.may_fit(heap) && has_all && view.len() == 2;
     Seen::of(before, behind, is_right)
+}
+
+/// Collects the keys of a view that goes.
+fn own_view<R: Wait + Threads + Sync + Send>(
+    heap: &Heap,
+    table: &Table<'_, R>,
+    me: &mut Me,
+) -> Option<Seen> {
+    let view = two(heap, table, me)?.into_read_only().ok()?;
+    let before = heap.asked();
+    let said = collect_view(heap, table.lot().runtime(), view);
+    Seen::of(before, heap.asked(), said.may_fit(heap))
 }
 
 /// Makes a call on a view, or collects the keys of one that goes.
@@ -99,14 +122,11 @@ pub fn with_view<R: Wait + Threads + Sync + Send>(
     me: &mut Me,
     call: Viewed,
 ) -> Option<Seen> {
-    let rt = table.lot().runtime();
-    let view = two(heap, table, me)?.into_read_only().ok()?;
     if let Viewed::OwnedMapCollect = call {
-        let before = heap.asked();
-        let said = collect_view(heap, rt, view);
-        return Seen::of(before, heap.asked(), said.may_fit(heap));
+        return own_view(heap, table, me);
     }
-    ask_view(heap, table, rt, &view, call)
+    let view = two(heap, table, me)?.into_read_only().ok()?;
+    ask_view(heap, table, table.lot().runtime(), &view, call)
 }
 
 const COLLECT: On = On::View(Viewed::MapCollect);

@@ -88,22 +88,33 @@ fn count_of(world: &World<'_>) -> u64 {
     count
 }
 
-/// Adds who was answered what, whose the blocks are, the pairs of the keys 1 and 2, and how many pairs there are.
-fn tell(world: &World<'_>, text: &mut String) -> Result<(), AllocError> {
+/// Adds who was answered what, and whose the blocks are.
+fn tell_calls(world: &World<'_>, text: &mut String) -> Result<(), AllocError> {
     for reply in world.replies() {
         write!(text, "{} {}, ", reply.thread, Shown(&reply.answer))?;
     }
-    write!(text, "blocks")?;
+    text.push_str("blocks")?;
     for block in world.blocks() {
         write!(text, " {}", block.thread)?;
     }
-    write!(text, ";")?;
+    Ok(())
+}
+
+/// Adds the pairs of the keys 1 and 2, and how many pairs there are.
+fn tell_pairs(world: &World<'_>, text: &mut String) -> Result<(), AllocError> {
+    text.push_str(";")?;
     for key in 1..3 {
         if let Some((key, value)) = world.pair(&key) {
             write!(text, " {key}={value}")?;
         }
     }
     write!(text, " of {}", count_of(world))
+}
+
+/// Adds both.
+fn tell(world: &World<'_>, text: &mut String) -> Result<(), AllocError> {
+    tell_calls(world, text)?;
+    tell_pairs(world, text)
 }
 
 fn is_told(alloc: Global, world: &World<'_>, wanted: &str) -> bool {

@@ -1,6 +1,6 @@
 //! Sets: their calls, their owner's calls and their parallel forms.
 
-use crate::rows::{FROM, On, Row, Rows, TO, Table, Team, keys};
+use crate::rows::{FROM, Me, On, Row, Rows, TO, Table, Team, keys};
 use dashmap::set::DashSet;
 use dashmap_parallel::ParExtendFault;
 use dashmap_table::{MapFault, NoMemory, SpreadState};
@@ -198,6 +198,53 @@ fn collect_owned<Q: RawRwLock + Drop, R: Threads + Sync>(
     listed(list, 2, NoMemory)
 }
 
+/// A set whose locks are rows of the table.
+fn set_on<'h, 't, 'l, R: Wait>(
+    heap: &'h Heap,
+    table: &'t Table<'l, R>,
+) -> Option<Set<'h, Row<'t, 'l, R>>> {
+    DashSet::with_hasher(heap, SpreadState, 1, table).ok()
+}
+
+/// Collects the keys of a set that goes.
+fn own_set<R: Wait + Threads + Sync + Send>(
+    heap: &Heap,
+    table: &Table<'_, R>,
+    me: &mut Me,
+) -> Option<Seen> {
+    let set = set_on(heap, table)?;
+    let _keys = prepare(&set, me, OnSet::OwnedMapCollect)?;
+    let before = heap.asked();
+    let said = collect_owned(heap, table.lot().runtime(), set);
+    Seen::of(before, heap.asked(), said.may_fit(heap) && table.are_free())
+}
+
+/// Makes a call on a set that is lent.
+fn ask_set<'h, 't, 'l, R: Wait + Threads + Sync + Send>(
+    heap: &'h Heap,
+    table: &'t Table<'l, R>,
+    set: &mut Set<'h, Row<'t, 'l, R>>,
+    team: &mut Team,
+    call: OnSet,
+) -> Option<Seen> {
+    let rt = table.lot().runtime();
+    let keys = prepare(set, &mut team.me, call)?;
+    let before = heap.asked();
+    let (before, came) = match call {
+        OnSet::Extend | OnSet::ParExtend | OnSet::ParExtendShared => {
+            extend(heap, rt, set, &mut team.others, call)?
+        }
+        OnSet::MapCollect => (
+            before,
+            Came::Other(collect(heap, rt, set, &mut team.others)),
+        ),
+        _ => (before, make_call(table, set, &mut team.me, call)),
+    };
+    let behind = heap.asked();
+    let is_right = table.are_free() && stands(heap, set, keys, came, &mut team.me);
+    Seen::of(before, behind, is_right)
+}
+
 /// Makes a call on a set, or collects the keys of one that goes.
 pub fn with_set<R: Wait + Threads + Sync + Send>(
     heap: &Heap,
@@ -205,27 +252,11 @@ pub fn with_set<R: Wait + Threads + Sync + Send>(
     team: &mut Team,
     call: OnSet,
 ) -> Option<Seen> {
-    let rt = table.lot().runtime();
-    let mut set: Set<'_, Row<'_, '_, R>> = DashSet::with_hasher(heap, SpreadState, 1, table).ok()?;
-    let keys = prepare(&set, &mut team.me, call)?;
-    let before = heap.asked();
-    let (before, came) = match call {
-        OnSet::OwnedMapCollect => {
-            let said = collect_owned(heap, rt, set);
-            return Seen::of(before, heap.asked(), said.may_fit(heap) && table.are_free());
-        }
-        OnSet::Extend | OnSet::ParExtend | OnSet::ParExtendShared => {
-            extend(heap, rt, &mut set, &mut team.others, call)?
-        }
-        OnSet::MapCollect => (
-            before,
-            Came::Other(collect(heap, rt, &set, &mut team.others)),
-        ),
-        _ => (before, make_call(table, &mut set, &mut team.me, call)),
-    };
-    let behind = heap.asked();
-    let is_right = table.are_free() && stands(heap, &set, keys, came, &mut team.me);
-    Seen::of(before, behind, is_right)
+    if let OnSet::OwnedMapCollect = call {
+        return own_set(heap, table, &mut team.me);
+    }
+    let mut set = set_on(heap, table)?;
+    ask_set(heap, table, &mut set, team, call)
 }
 
 const KEY: &str = "the key comes back; no key; no hold";

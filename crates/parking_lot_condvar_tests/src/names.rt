@@ -11,7 +11,7 @@ use parking_lot::{
     Poisoned, RawFairMutex, RawMutex, RawRwLock, RawRwLockRecursive, RawThreadId, RecursiveRwLock,
     RecursiveRwLockReadGuard, RecursiveRwLockUpgradableReadGuard, RecursiveRwLockWriteGuard,
     ReentrantMutex, ReentrantMutexGuard, RwLock, RwLockReadGuard, RwLockUpgradableReadGuard,
-    RwLockWriteGuard, TableFull, WaitTimeoutResult,
+    RwLockWriteGuard, WaitTimeoutResult,
 };
 use parking_lot_core::{ParkingLot, ThreadData};
 use std::sync::Wait;
@@ -190,46 +190,33 @@ fn is_recursive_read_and_written<R: Wait>(
     changed & are_read & !lock.is_locked() & (lock.into_inner() == (5, 2))
 }
 
-/// Whether both kinds of mutexes are taken and given back.
-fn are_mutexes_taken<R: Wait>(
-    rows: &LockTable<'_, R>,
-    me: &mut ThreadData,
-) -> Result<bool, TableFull> {
-    let plain = is_mutex_taken(Mutex::new(rows, (1, 2))?, me);
-    Ok(plain & is_fair_mutex_taken(FairMutex::new(rows, (1, 2))?, me))
-}
-
-/// Whether both kinds of reader-writer locks are read, written and given back; they have rows 2 and 3.
-fn are_read_and_written<R: Wait>(
-    rows: &LockTable<'_, R>,
-    me: &mut ThreadData,
-) -> Result<bool, TableFull> {
-    let plain = is_read_and_written(RwLock::new(rows, 4, (1, 2))?, rows, 2, me);
-    let lock = RecursiveRwLock::new(rows, 4, (1, 2))?;
-    Ok(plain & is_recursive_read_and_written(lock, rows, 3, me))
-}
-
-/// Whether a reentrant mutex is taken twice and given back.
-fn is_nested<R: Wait + Drop>(
-    rows: &LockTable<'_, R>,
-    me: &mut ThreadData,
-) -> Result<bool, TableFull> {
-    let nested = ReentrantMutex::new(rows, 2, (1, 2))?;
-    let right = is_taken_twice(&nested, me);
-    Ok(right & (nested.into_inner() == (1, 2)))
-}
-
 #[test]
 fn locks_are_taken_and_given_back(rt: HostRuntime) -> Result<(), Fail> {
     let lot = ParkingLot::new(rt, rt.alloc(), 1, 7)?;
     let mut me = lot.thread_data()?;
     let table = LockTable::new(rt.alloc(), &lot, 5)?;
-    assert!(rt; are_mutexes_taken(&table, &mut me)?, "the mutexes");
+    let rows = &table;
     assert!(rt;
-        are_read_and_written(&table, &mut me)?,
-        "the reader-writer locks"
+        is_mutex_taken(Mutex::new(rows, (1, 2))?, &mut me),
+        "the mutex"
     );
-    assert!(rt; is_nested(&table, &mut me)?, "the reentrant mutex");
+    assert!(rt;
+        is_fair_mutex_taken(FairMutex::new(rows, (1, 2))?, &mut me),
+        "the fair mutex"
+    );
+    let lock = RwLock::new(rows, 4, (1, 2))?;
+    assert!(rt; is_read_and_written(lock, rows, 2, &mut me), "the lock");
+    let lock = RecursiveRwLock::new(rows, 4, (1, 2))?;
+    assert!(rt;
+        is_recursive_read_and_written(lock, rows, 3, &mut me),
+        "the recursive lock"
+    );
+    let nested = ReentrantMutex::new(rows, 2, (1, 2))?;
+    assert!(rt; is_taken_twice(&nested, &mut me), "the reentrant mutex");
+    assert!(rt;
+        nested.into_inner() == (1, 2),
+        "the reentrant mutex in the end"
+    );
     for row in 0..5 {
         assert!(rt; table.word(row) == Some(0), "row {row}");
     }

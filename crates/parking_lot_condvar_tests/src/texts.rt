@@ -6,7 +6,7 @@ use parking_lot_core::ParkingLot;
 use parking_lot_driver::LockTable;
 use parking_lot_mutex::condvar::RawCondvar;
 use parking_lot_mutex::once::{Once, OnceFault, Poisoned};
-use std::alloc::Global;
+use std::alloc::{AllocError, Global};
 use std::fmt::Debug;
 use std::test::Fail;
 
@@ -18,6 +18,17 @@ fn is_shown<D: Debug>(alloc: Global, shown: &D, text: &str) -> bool {
     }
 }
 
+/// Whether the refusals of a once are shown and numbered.
+fn are_refusals_shown(alloc: Global) -> Result<bool, AllocError> {
+    let failed: OnceFault<u8> = OnceFault::Failed(5);
+    let poisoned: OnceFault<u8> = OnceFault::Poisoned;
+    let shown = format!(in alloc; "{failed} {poisoned} {Poisoned}")?;
+    let debug = format!(in alloc; "{failed:?} {poisoned:?} {Poisoned:?}")?;
+    let right = shown.as_str() == "5 Poisoned Poisoned"
+        && debug.as_str() == "Failed(5) Poisoned Poisoned";
+    Ok(right & (failed.code() == None) & (poisoned.code() == Some(24)) & (Poisoned.code() == 24))
+}
+
 #[test]
 fn texts_and_codes(rt: HostRuntime) -> Result<(), Fail> {
     let lot = ParkingLot::new(rt, rt.alloc(), 4, 7)?;
@@ -26,14 +37,7 @@ fn texts_and_codes(rt: HostRuntime) -> Result<(), Fail> {
     let over = Once::new_completed(&table)?;
     let is_new = is_shown(rt.alloc(), &once, "Once { state: New }");
     let is_done = is_shown(rt.alloc(), &over, "Once { state: Done }");
-    assert!(rt; is_new & is_done);
-    let failed: OnceFault<u8> = OnceFault::Failed(5);
-    let poisoned: OnceFault<u8> = OnceFault::Poisoned;
-    let shown = format!(in rt.alloc(); "{failed} {poisoned} {Poisoned}")?;
-    let debug = format!(in rt.alloc(); "{failed:?} {poisoned:?} {Poisoned:?}")?;
-    assert!(rt; shown.as_str() == "5 Poisoned Poisoned");
-    assert!(rt; debug.as_str() == "Failed(5) Poisoned Poisoned");
-    assert!(rt; (failed.code() == None) & (poisoned.code() == Some(24)) & (Poisoned.code() == 24));
+    assert!(rt; is_new & is_done & are_refusals_shown(rt.alloc())?);
     Ok(())
 }
 
