@@ -1,10 +1,10 @@
 //! Guards that own an Arc of their lock: each such call clones the Arc first, and takes no lock where that is
 //! refused.
 
-use refusing_heap::{Case, Heap, Line, Said, Seen};
 use lock_api::{ArcGuard, Mutex, ReentrantMutex, RwLock};
 use lock_api_guards::Hold;
 use lock_api_spin::{PackedLock, PackedMutex, Parties};
+use refusing_heap::{Case, Heap, Line, Said, Seen};
 use std::rt::Clock;
 use std::sync::{Arc, Wait};
 use std::time::{Duration, Instant};

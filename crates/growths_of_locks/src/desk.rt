@@ -1,7 +1,7 @@
 //! The desk of a lock.
 
-use refusing_heap::{Case, Heap, Line, Said, Seen};
 use lock_api_desk::{Desk, DeskCall, DeskFault, DeskRunFault, TokenTable};
+use refusing_heap::{Case, Heap, Line, Said, Seen};
 
 type Small<'h> = Desk<TokenTable, u64, &'h Heap>;
 

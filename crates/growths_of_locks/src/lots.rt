@@ -1,8 +1,8 @@
 //! The lot, with threads and without, and the table of locks on it.
 
-use refusing_heap::{Case, Heap, Line, Said, Seen, listed, made};
 use parking_lot_core::{DEFAULT_PARK_TOKEN, Lot, LotFault, ParkingLot, SizeFault, deadlock};
 use parking_lot_rwlock::LockTable;
+use refusing_heap::{Case, Heap, Line, Said, Seen, listed, made};
 use std::sync::Wait;
 
 /// A lot of threads in a heap.

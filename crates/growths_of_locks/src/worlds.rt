@@ -1,8 +1,8 @@
 //! Worlds of locks.
 
-use refusing_heap::{Case, Heap, Line, Said, Seen, listed, made};
 use parking_lot_core::SizeFault;
 use parking_lot_world::{LockAnswer, LockCall, LockKind, World, WorldStep};
+use refusing_heap::{Case, Heap, Line, Said, Seen, listed, made};
 
 type Small<'h> = World<&'h Heap>;
 
