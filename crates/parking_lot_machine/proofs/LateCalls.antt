@@ -77,6 +77,11 @@ pub quits_out : (m : Machine) (t key : ℕ) (sleep : Sleep) → place_at m.place
     → quitted m t key ≡ in_phase (given_up m t key) key Phase.Ended
 quits_out m t key sleep waits = ap (λ (p : Option Place). in_phase (resumed m t p) key Phase.Ended) waits
 
+pub quits_taken : (m : Machine) (t key : ℕ) (token : UnparkToken) (sleep : Sleep)
+    → place_at m.places t ≡ Some (Taken token key sleep false)
+    → quitted m t key ≡ in_phase (record m { places = slice_set m.places t (Some Running) }) key Phase.Ended
+quits_taken m t key token sleep taken = ap (λ (p : Option Place). in_phase (resumed m t p) key Phase.Ended) taken
+
 -- the section of a key that comes so far
 pub now_phase : (m : Machine) (key : ℕ) (o : Section) (ph : Phase) → core_lot.open_at m key ≡ Some o
     → core_lot.open_at (in_phase m key ph) key ≡ Some (record o { phase = ph })
@@ -104,31 +109,45 @@ sound_store : (m : Machine) (key : ℕ) (token : UnparkToken) → Sound m → So
 sound_store m key token h = sound_section m key (λ x. record x { phase = Phase.Stored; token = token }) h
     (λ x. refl) (λ x. refl) (λ x at may. absurd (false≢true may))
 
--- one that was taken and is back runs
-pub sound_found : (m : Machine) (t key : ℕ) (token : UnparkToken) (sleep : Sleep) → Sound m
-    → core_lot.open_at m key ≡ None → place_at m.places t ≡ Some (Taken token key sleep false)
-    → Sound (stored (in_phase (record (returned m t key) { places = slice_set m.places t (Some Running) }) key
-    Phase.Ended) key (sign false))
-sound_found m t key token sleep h free taken =
-    let back : Section = record { thread = Some t; key = key; phase = Phase.Joined; token = record { 0 = 0 } } in
-    let b : Machine = returned m t key in
-    let out : Machine = in_phase (record b { places = slice_set m.places t (Some Running) }) key Phase.Ended in
-    let may_back : option_map_or (may_return key) (place_at m.places t) false ≡ true =
-    ap (λ (p : Option Place). option_map_or (may_return key) p false) taken
-    ∙ ap (λ (x : Bool). x && true) (eq-eqb key key refl) in
-    let there : core_lot.open_at b key ≡ Some back =
-    ap (λ (n : Machine). core_lot.open_at n key) (phase_within m (fresh_section (Some t) key) Phase.Joined)
-    ∙ open_within m back in
-    let own : section_of b t ≡ Some back = own_section b t key back (updated_at m.inside t (Some key)) there in
-    let may : quit_fault b t ≡ None =
-    ap (λ (x : Option Section). cond
-    (option_map_or (λ s. has_joined s.phase) x false && option_map_or has_slept (place_at m.places t) false) None
-    (Some WrongStatus)) own
-    ∙ ap (λ (p : Option Place). cond (option_map_or has_slept p false) None (Some WrongStatus)) taken in
-    let quits : quitted b t key ≡ out =
-    ap (λ (p : Option Place). in_phase (resumed b t p) key Phase.Ended) taken in
-    sound_store out key (sign false)
-    (subst Sound quits (sound_quit b t key back (sound_returned m t key h free may_back) own refl may))
+-- ONE THAT IS BACK
+
+-- its section
+abbrev pub back_section : ℕ → ℕ → Section
+back_section t key = record { thread = Some t; key = key; phase = Phase.Joined; token = record { 0 = 0 } }
+
+module _ (m : Machine) (t key : ℕ) where
+  pub back_inside : (returned m t key).inside t ≡ Some key
+  back_inside = updated_at m.inside t (Some key)
+
+  pub back_open : core_lot.open_at (returned m t key) key ≡ Some (back_section t key)
+  back_open = ap (λ (n : Machine). core_lot.open_at n key) (phase_within m (fresh_section (Some t) key) Phase.Joined)
+      ∙ open_within m (back_section t key)
+
+  pub back_own : section_of (returned m t key) t ≡ Some (back_section t key)
+  back_own = own_section (returned m t key) t key (back_section t key) back_inside back_open
+
+  module _ (token : UnparkToken) (sleep : Sleep) (taken : place_at m.places t ≡ Some (Taken token key sleep false)) where
+    -- where it was taken it may say so
+    pub back_quits : quit_fault (returned m t key) t ≡ None
+    back_quits =
+        ap (λ (x : Option Section). cond
+        (option_map_or (λ s. has_joined s.phase) x false && option_map_or has_slept (place_at m.places t) false) None
+        (Some WrongStatus)) back_own
+        ∙ ap (λ (p : Option Place). cond (option_map_or has_slept p false) None (Some WrongStatus)) taken
+
+    -- and runs then
+    pub sound_found : Sound m → core_lot.open_at m key ≡ None
+        → Sound (stored (in_phase (record (returned m t key) { places = slice_set m.places t (Some Running) }) key
+        Phase.Ended) key (sign false))
+    sound_found h free =
+        let b : Machine = returned m t key in
+        let out : Machine = in_phase (record b { places = slice_set m.places t (Some Running) }) key Phase.Ended in
+        let may_back : option_map_or (may_return key) (place_at m.places t) false ≡ true =
+        ap (λ (p : Option Place). option_map_or (may_return key) p false) taken
+        ∙ ap (λ (x : Bool). x && true) (eq-eqb key key refl) in
+        sound_store out key (sign false)
+        (subst Sound (quits_taken b t key token sleep taken)
+        (sound_quit b t key (back_section t key) (sound_returned m t key h free may_back) back_own refl back_quits))
 
 -- THE MACHINE'S THREADS
 
@@ -175,7 +194,7 @@ module _ (s : State) (h : FitsTogether s) (t : ℕ) (c : Call) (here : call_at s
   pub found_sound : (by : ℕ) (said : WakeResult) → comes_late c.core ≡ true → c.spot ≡ QueuePosition.Off by said
       → open_at s (late_key c) ≡ None → Sound (found s t c by said).lot
   found_sound by said late off free = let x = taken_there by said late off free in sound_found s.lot t (late_key c) x.0
-      x.1 h.lots.sound free x.2
+      x.1 x.2 h.lots.sound free
 
   -- what is left of the lot is sound
   pub quit_sound : is_back c.core ≡ true → (left : Bool) → Sound (quitted_as s t c left).lot

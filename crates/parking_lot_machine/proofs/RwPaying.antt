@@ -517,11 +517,12 @@ module _ (n word first : ℕ) (shut : Shut) (e : shut.first ≡ true) where
   enters_all true want = omega (arith, parks_all want)
   enters_all false want = omega arith
 
+drain_all : (shut : Bool) → shut ≡ true → 9 ≤ cond (not shut) 4 9
+drain_all shut e = subst (λ (t : Bool). 9 ≤ cond (not t) 4 9) (sym e) (omega arith)
+
 drain_enters : (b : Bool) (shut : Bool) (more : ℕ) → shut ≡ true → 9 + more ≤ cond b (cond (not shut) 4 9 + more)
     (9 + more)
-drain_enters true shut more e =
-    let parks : cond (not shut) 4 9 ≡ 9 = ap (λ (t : Bool). cond (not t) 4 9) e in
-    omega (arith, parks)
+drain_enters true shut more e = omega (arith, drain_all shut e)
 drain_enters false shut more e = omega arith
 
 finishes_on : (rest : AfterWake) (shut : Shut) → StopsAt (act_of (Finishes rest)) shut → ⊥

@@ -99,6 +99,16 @@ pub(crate) fn find<A: Allocator>(lot: &mut Lot<A>, thread: usize, key: usize)
 {
     come_back(lot, thread, key);
     quit_taken(lot, thread, key);
+    store_nothing(lot, thread, key);
+}
+
+/// Says in a thread's section of a key that there is nothing to store.
+fn store_nothing<A: Allocator>(lot: &mut Lot<A>, thread: usize, key: usize)
+    requires store { step_fault may_store (machine lot.old) thread ≡ None }
+    requires within { (s : Section) × (section_of (machine lot.old) thread ≡ Some s) × (s.key ≡ key) }
+    ensures stored { machine lot.new ≡ stored (machine lot.old) key (record { 0 = 0 }) }
+    ensures sound { Sound (machine lot.new) }
+{
     store(lot, thread, DEFAULT_UNPARK_TOKEN);
 }
 
@@ -134,7 +144,7 @@ pub(crate) fn quit<A: Allocator>(lot: &mut Lot<A>, thread: usize, key: usize, st
     quit_list(lot, thread, key);
     let left = lot.has_waiters(key);
     if left || stores {
-        store(lot, thread, DEFAULT_UNPARK_TOKEN);
+        store_nothing(lot, thread, key);
     }
     lot.known();
     left

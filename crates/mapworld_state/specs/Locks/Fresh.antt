@@ -16,7 +16,7 @@ pub record IsEmptyFor (threads : ℕ) (desk : DeskState (Unit {0})) : Type 0 whe
 
 -- nobody has done anything
 pub record AreFresh (threads shards : ℕ) (sh : Shown) : Type 0 where
-  pub rows : state sh.rows ≡ at_rest threads (replicate shards kind.Rw)
+  pub rows : state sh.rows ≡ at_rest false threads (replicate shards kind.Rw)
   pub desks : All (IsEmptyFor threads) sh.desks
   pub count : length sh.desks ≡ shards
   pub free : (t : ℕ) → stand_in sh t ≡ None
