@@ -1,5 +1,5 @@
 -- The acts of a call whose moment has passed: each keeps the machine fit, and is a step of the rules.
-use Rattle.std.proofs.Common.{◌≡◌, ℕ, ◌+◌, ◌*◌, ◌≤◌, ◌≢◌, inl, inr, true, List, length, Option, Some, None, slice_get}
+use Rattle.std.proofs.Common.{◌≡◌, ℕ, ◌+◌, ◌*◌, ◌<◌, ◌≤◌, ◌≢◌, inl, inr, Bool, true, false, List, length, Option, Some, None, slice_get}
 use Rattle.std.proofs.Common.{slice_set, sum_by, refl, sym, ap, ◌∙◌, subst, arith}
 use Rattle.std.specs.Option.{option_and_then}
 use Rattle.std.proofs.lemmas.Bool.{cases_eq}
@@ -177,7 +177,8 @@ module _ (s : State) (t : ℕ) (c : Call) (asleep : sleeps_in_time c.core ≡ tr
             tt,
           )
           (ap (λ p. Mx (record (mutex_at s c.lock)
-          { roles = slice_set (mutex_at s c.lock).roles t (late_role (mutex_spot p) LatePhase.Expires) })) f) refl
+          { roles = slice_set (mutex_at s c.lock).roles t (late_role (mutex_spot p) LatePhase.Expires) })) f)
+          (tt, λ b. refl)
       go (QueuePosition.Off by said) f =
           late_made of_mutexes (CallLate LatePhase.Expires) (ap late_of e) kind_is
           (MxStep (mutex.Alone (mutex.ExpireTaken by (mark_of said)))) (
@@ -186,7 +187,8 @@ module _ (s : State) (t : ℕ) (c : Call) (asleep : sleeps_in_time c.core ≡ tr
             tt,
           )
           (ap (λ p. Mx (record (mutex_at s c.lock)
-          { roles = slice_set (mutex_at s c.lock).roles t (late_role (mutex_spot p) LatePhase.Expires) })) f) refl
+          { roles = slice_set (mutex_at s c.lock).roles t (late_role (mutex_spot p) LatePhase.Expires) })) f)
+          (tt, λ b. refl)
   expiring_mutex q y e is at f = absurd cc
 
   module _ (k : RwSleeper) (e : c.core ≡ rw_call (as_call k))

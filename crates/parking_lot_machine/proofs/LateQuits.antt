@@ -1,6 +1,6 @@
 -- One whose moment has passed takes itself out of its list: that keeps the machine fit, and is a step of the rules.
 use Rattle.std.proofs.Common.{◌≡◌, ℕ, zero, suc, ◌+◌, ◌*◌, ◌≤◌, ◌<◌, ◌≢◌, ◌==◌, ◌||◌, inl, inr, Bool, true, false, cond}
-use Rattle.std.proofs.Common.{List, [], ◌∷◌, length, remove, Some, None, is_some, slice_get, slice_set, refl, sym, ap}
+use Rattle.std.proofs.Common.{List, [], ◌∷◌, length, remove, Option, Some, None, is_some, slice_get, slice_set, refl, sym, ap}
 use Rattle.std.proofs.Common.{◌∙◌, subst, arith, eqb-true, eq-eqb}
 use Rattle.std.specs.List.{position_or_len}
 use Rattle.std.specs.Option.{option_and_then, option_map}
@@ -161,6 +161,14 @@ module _ (s : State) (t : ℕ) (c : Call) (late : is_back c.core ≡ true) (h : 
         go true = refl
         go false = refl
 
+    quit_buckets : quit_state.lot.buckets ≡ s.lot.buckets
+    quit_buckets = go told_now
+      where
+        go : (b : Bool) → (cond b (stored (out_of_list s t c) key (sign false)) (out_of_list s t c)).buckets
+            ≡ s.lot.buckets
+        go true = refl
+        go false = refl
+
     own_quit : OwnAct s quit_state t c heard (core_next c.core heard) c.spot
     own_quit = record {
       here = here;
@@ -173,7 +181,7 @@ module _ (s : State) (t : ℕ) (c : Call) (late : is_back c.core ≡ true) (h : 
       words = λ j ne. refl;
       queues = λ j k ne b. quit_queue (2 * j + k) ∙ updated_other s.lot.queues key (remove q i) (2 * j + k)
           (ne_eqb (2 * j + k) key (λ e. ne (one_key j c.lock k which b two e).0));
-      buckets = refl;
+      buckets = quit_buckets;
       listed = λ k token e. stands.5;
     }
 
@@ -221,11 +229,6 @@ module _ (s : State) (t : ℕ) (c : Call) (late : is_back c.core ≡ true) (h : 
         d : Call
         d = hears c heard
 
-        go : (b : Bool) → stance d.core ≡ In which (cond b (Tells (sign false)) Stores)
-            → lot.Sound (cond b (stored (out_of_list s t c) key (sign false)) (out_of_list s t c))
-            → LotFits (with_lot (with_call s t d)
-            (cond b (stored (out_of_list s t c) key (sign false)) (out_of_list s t c)))
-
         -- the section of the key comes so far
         ends : out_of_list s t c ≡ lot_with_at s key s.lot.sleeps (out_of_list s t c).queues (out_of_list s t c).places
             (Some (record o { phase = Phase.Ended })) s.lot.inside
@@ -236,6 +239,11 @@ module _ (s : State) (t : ℕ) (c : Call) (late : is_back c.core ≡ true) (h : 
         tells = ap (λ (m : Machine). stored m key (sign false)) ends
             ∙ restored_as s key s.lot.sleeps (out_of_list s t c).queues (out_of_list s t c).places
             (record o { phase = Phase.Ended }) s.lot.inside (sign false)
+
+        go : (b : Bool) → stance d.core ≡ In which (cond b (Tells (sign false)) Stores)
+            → lot.Sound (cond b (stored (out_of_list s t c) key (sign false)) (out_of_list s t c))
+            → LotFits (with_lot (with_call s t d)
+            (cond b (stored (out_of_list s t c) key (sign false)) (out_of_list s t c)))
         go true to so =
             let o' : Section = record o { phase = Phase.Stored; token = sign false } in
             let out = stored (out_of_list s t c) key (sign false) in

@@ -1,6 +1,6 @@
 -- One whose moment has passed and that was taken comes back and finds that out. That is two steps of the rules: its
 -- taker drops it from those that it is to wake, and it enters the section. The machine stays fit.
-use Rattle.std.proofs.Common.{◌≡◌, ◌≢◌, ◌≤◌, ℕ, ◌+◌, ◌*◌, ◌==◌, inl, inr, Bool, true, false, cond, List, length, Option}
+use Rattle.std.proofs.Common.{◌≡◌, ◌≢◌, ◌≤◌, ◌<◌, ℕ, ◌+◌, ◌*◌, ◌==◌, inl, inr, Bool, true, false, cond, List, length, Option}
 use Rattle.std.proofs.Common.{Some, None, is_some, slice_get, slice_set, refl, sym, ap, ◌∙◌, subst, arith}
 use Rattle.std.specs.List.{position_or_len}
 use Rattle.std.specs.Option.{option_and_then}

@@ -1,5 +1,5 @@
 -- The acts of a call keep what fits of the lot.
-use Rattle.std.proofs.Common.{◌≡◌, ◌<◌, ℕ, ◌+◌, ◌*◌, ◌==◌, ◌⊎◌, inl, inr, false, List, length, Option, Some, None}
+use Rattle.std.proofs.Common.{◌≡◌, ◌<◌, ℕ, ◌+◌, ◌*◌, ◌==◌, ◌⊎◌, inl, inr, Bool, false, List, length, Option, Some, None}
 use Rattle.std.proofs.Common.{slice_get, slice_set, refl, sym, ap, ◌∙◌, subst, ◌≤◌, ◌%◌, true, cond, map, arith, eq-eqb}
 use Rattle.std.specs.Option.{option_map_or, option_and_then, option_map}
 use Rattle.std.proofs.lemmas.Bool.{eqb-false, false≢true, ne_eqb, cond-true, cond-false}
@@ -9,6 +9,7 @@ use Rattle.parking_lot_core_model.specs.declared.parking.UnparkToken.{UnparkToke
 use Rattle.parking_lot_core_model.specs.declared.place.Place.{Place}
 use Rattle.parking_lot_core_model.specs.declared.place.Place.TheVariants.{Running, Held, Taken, Waiting}
 use Rattle.parking_lot_core_model.specs.declared.place.Sleep.{Sleep}
+use Rattle.parking_lot_core_model.specs.declared.place.Waiter.{Waiter}
 use Rattle.parking_lot_core_model.specs.Lists.{updated}
 use Rattle.parking_lot_core_model.specs.declared.place.Section.{Section}
 use Rattle.parking_lot_core_model.specs.Machine.{Machine, fresh_section, let_out, opened, in_phase, stored, closed}
@@ -578,7 +579,7 @@ told_while key token Looks at place k h = ap (option_map (told key token false))
 told_while key token TurnsBack at place k h = ap (option_map (told key token false)) h
 told_while key token (Joins park) at place k h = ap (option_map (told key token false)) h
 told_while key token (Joined park) at place k h =
-    (h.0, h.1.0, ap (option_map (told key token false)) h.1.1, h.1.2)
+    (h.0, (h.1.0, ap (option_map (told key token false)) h.1.1, h.1.2))
 told_while key token Takes at place k h = ap (option_map (told key token false)) h
 told_while key token Stores at place k h = ap (option_map (told key token false)) h
 told_while key token (Tells said) at place k h = ap (option_map (told key token false)) h

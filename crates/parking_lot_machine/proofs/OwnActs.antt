@@ -290,6 +290,11 @@ module _ (s u : State) (t : ℕ) (h : FitsTogether s) where
         )
 
     -- a mutex has one list
+    ends_first : (again : Bool) → act_crossing Out (cond again Act.Load (Act.Done CoreAnswer.Released))
+        ≡ crossing_of (cond again Act.Load (Act.Done CoreAnswer.Released))
+    ends_first true = refl
+    ends_first false = refl
+
     crosses_first : (p : MutexPhase) → act_crossing (mutex_stance p) (of_mutex_table.act_of p)
         ≡ crossing_of (of_mutex_table.act_of p)
     crosses_first (MutexPhase.Enters woken) = refl
@@ -297,11 +302,18 @@ module _ (s u : State) (t : ℕ) (h : FitsTogether s) where
     crosses_first (MutexPhase.Retreats woken) = refl
     crosses_first MutexPhase.Rests = refl
     crosses_first (MutexPhase.Leaves giving taken handed) = refl
+    crosses_first (MutexPhase.Finishes giving) = ends_first giving.again
     crosses_first p = refl
+
+    ends_there : (again : Bool) (which : ℕ)
+        → cond again Act.Load (Act.Done CoreAnswer.Released) ≡ Act.Enter (suc which) → ⊥
+    ends_there true which e = cc
+    ends_there false which e = cc
 
     first_only : (p : MutexPhase) (which : ℕ) → of_mutex_table.act_of p ≡ Act.Enter (suc which) → ⊥
     first_only (MutexPhase.Enters woken) which e = cc
     first_only (MutexPhase.Looks giving) which e = cc
+    first_only (MutexPhase.Finishes giving) which e = ends_there giving.again which e
     first_only p which e = cc
 
     enters_first : (p : MutexPhase) (which : ℕ) → of_mutex_table.act_of p ≡ Act.Enter which

@@ -147,8 +147,8 @@ late_falls n (LatePhase.WasTaken by handed) x ActResult.Made v shut gives can = 
         (record { phase = mutex_table.next_phase MutexPhase.Sleeps (seen.Woken (sign b)) })) + 1 ≤ 52
     resumes Unseen true = omega arith
     resumes Unseen false = omega arith
-    resumes (Sees word first shut) true = open_or_not true shut.first
-    resumes (Sees word first shut) false = open_or_not false shut.first
+    resumes (Sees word first shut) true = omega arith
+    resumes (Sees word first shut) false = omega (arith, open_or_not false shut.first)
 late_falls n p x told v shut gives can = absurd gives
 
 -- what one sees doesn't count while it sleeps

@@ -169,10 +169,11 @@ module _ (s : State) (t : ℕ) (c : Call) (h : FitsTogether s) (here : call_at s
   was_off =
       let x = woken_off s t c h.lots here e d due.first mine due.there from in
       let y = due_place s t c h.lots here e d due.first mine due.there from in
-      let token_is : y.0 ≡ token = same_token y.1 due.sleep (sym y.2 ∙ due.place) in
-      (x.1, x.2, x.3 ∙ ap (λ (z : WakeResult). QueuePosition.Off t z) (y.5 ∙ ap told_of token_is), x.4)
+      let token_is : y.0 ≡ token = same_token y.2 due.sleep (sym y.3 ∙ due.place) in
+      (x.1, x.2, x.3 ∙ ap (λ (z : WakeResult). QueuePosition.Off t z) (y.6 ∙ ap told_of token_is), x.4)
     where
-      same_token : {a b : UnparkToken} → (p q : Sleep) → Some (Taken a p false) ≡ Some (Taken b q false) → a ≡ b
+      same_token : {a b : UnparkToken} {i j : ℕ} → (p q : Sleep) → Some (Taken a i p false) ≡ Some (Taken b j q false)
+          → a ≡ b
       same_token p q z = cc
 
   pub same_lock : d.lock ≡ c.lock

@@ -246,8 +246,11 @@ module _ (s : State) (t : ℕ) (c : Call) (may : MayBegin s t c) (h : FitsTogeth
       record {
         fits = record {
           lots = begun_fits s t c h.lots may.low may.free (calls_begin c.core).0 (calls_begin c.core).1;
-          passes = λ v d k o at is there. calls_begun (λ (n : ℕ) (y : Call). stance y.core ≡ In k Takes → ArePassed (asks (core_act y.core)) (s.lot.queues (2 * y.lock + k)) (passed_of o.phase))
-              (λ n y at_n takes. h.passes n y k o at_n takes there) (λ takes. absurd (out_takes (sym (calls_begin c.core).0 ∙ takes))) v d at is;
+          passes = λ v d k o at is there. calls_begun
+              (λ (n : ℕ) (y : Call). stance y.core ≡ In k Takes → open_at s (2 * y.lock + k) ≡ Some o
+              → ArePassed (asks (core_act y.core)) (s.lot.queues (2 * y.lock + k)) (passed_of o.phase))
+              (λ n y at_n takes its. h.passes n y k o at_n takes its)
+              (λ takes its. absurd (out_takes (sym (calls_begin c.core).0 ∙ takes))) v d at is there;
           wakes = wakes_begun;
           rules = rules_after s next c.lock h.rules (record {
             kinds = refl;
@@ -562,9 +565,9 @@ module _ (s : State) (h : FitsTogether s) (t : ℕ) (c : Call) (here : call_at s
           fits = record {
             lots = same_parts (record s { calls = slice_set s.calls t None }) u refl refl refl (ended_fits s t c h.lots here out.0 out.1);
             passes = λ v d k o at is there. calls_ended
-                (λ (n : ℕ) (y : Call). stance y.core ≡ In k Takes → ArePassed (asks (core_act y.core))
-                (s.lot.queues (2 * y.lock + k)) (passed_of o.phase))
-                (λ n y at_n takes. h.passes n y k o at_n takes there) v d at is;
+                (λ (n : ℕ) (y : Call). stance y.core ≡ In k Takes → open_at s (2 * y.lock + k) ≡ Some o
+                → ArePassed (asks (core_act y.core)) (s.lot.queues (2 * y.lock + k)) (passed_of o.phase))
+                (λ n y at_n takes its. h.passes n y k o at_n takes its) v d at is there;
             wakes = wakes_ended;
             rules = rules_after s u c.lock h.rules (record {
               kinds = refl;
