@@ -12,6 +12,8 @@ use Rattle.parking_lot_rules.specs.Any.{AnyLock, Mx, MxStep, any_inside, mutex_c
 use Rattle.parking_lot_rules.specs.Family.{Key, First, Second, Crossing, key}
 use Rattle.parking_lot_rules.proofs.MutexCrossing.{any_are_rules}
 use Rattle.parking_lot_protocol.specs.declared.act.Act.{Act}
+use Rattle.parking_lot_protocol.specs.declared.act.CoreAnswer.{CoreAnswer}
+use Rattle.parking_lot_machine_calls.specs.Stances.{Out}
 use Rattle.parking_lot_protocol.specs.declared.act.SectionAct.TheVariants as section
 use Rattle.parking_lot_protocol.specs.declared.act.ActResult.{ActResult}
 use Rattle.parking_lot_protocol.specs.declared.mutex_core.MutexCore.{MutexCore}

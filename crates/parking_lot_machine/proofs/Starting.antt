@@ -21,7 +21,7 @@ use Rattle.parking_lot_machine_calls.specs.declared.seat.Core.{Core}
 use Rattle.parking_lot_machine_calls.specs.declared.open_call.Call.{Call}
 use Rattle.parking_lot_machine_calls.specs.declared.seat.QueuePosition.{QueuePosition}
 use Rattle.parking_lot_machine.specs.Rows.{State, word_at, call_at, hold_at, taken_by, mutex_at, rw_role_at, rw_lock_at}
-use Rattle.parking_lot_machine.specs.Rows.{queue_at}
+use Rattle.parking_lot_machine.specs.Rows.{open_at, queue_at}
 use Rattle.parking_lot_machine_calls.specs.CallRoles.{first_of_all, owned_of, owns_mutex, mutex_spot, mutex_role}
 use Rattle.parking_lot_machine_calls.specs.Stances.{Takes, has_begun, mutex_begun, late_act, core_act, core_next}
 use Rattle.parking_lot_machine_calls.specs.Stances.{Stance, Out, In, Asleep, stance, taken_count}

@@ -1,6 +1,6 @@
 -- A thread that takes one of a list: the machine stays fit, and it is a step of the rules.
 use Rattle.parking_lot_core_model.proofs.Kept.{updated_other}
-use Rattle.std.proofs.Common.{◌≡◌, ◌≢◌, ℕ, Bool, false, inl, inr, remove, Some, refl, sym, ap, ◌∙◌, subst}
+use Rattle.std.proofs.Common.{◌≡◌, ◌≢◌, ℕ, ◌+◌, ◌*◌, Bool, false, inl, inr, remove, Some, refl, sym, ap, ◌∙◌, subst}
 use Rattle.std.proofs.lemmas.Bool.{cases_eq}
 use Rattle.parking_lot_core_model.specs.declared.parking.ParkToken.{ParkToken}
 use Rattle.parking_lot_core_model.specs.declared.place.Waiter.{Waiter}
