@@ -1,5 +1,5 @@
 -- The acts of the machine: each keeps it fit, and is a step of the rules.
-use Rattle.std.proofs.Common.{◌≡◌, ◌≢◌, ℕ, ◌+◌, ◌*◌, ◌%◌, ◌^◌, ◌<◌, inl, inr, cond, Bool, true, false, List, length, Option}
+use Rattle.std.proofs.Common.{◌≡◌, ◌≢◌, ℕ, zero, suc, ◌+◌, ◌*◌, ◌%◌, ◌^◌, ◌<◌, inl, inr, cond, Bool, true, false, List, length, Option}
 use Rattle.std.proofs.Common.{Some, None, slice_get, slice_set, refl, sym, ap, ◌∙◌, subst, eq-eqb}
 use Rattle.std.proofs.lemmas.Bool.{cases_eq, ne_eqb, both_ways}
 use Rattle.std.proofs.lemmas.List.{length-set}
@@ -42,7 +42,10 @@ use Rattle.parking_lot_machine.proofs.OwnActs.{own_fits}
 use Rattle.parking_lot_machine.proofs.WakesKept.{wakes_own}
 use Rattle.parking_lot_core_model.specs.Places.{passed_of}
 use Rattle.parking_lot_machine.proofs.Crossings.{comes_at, entered_still, goes_at}
-use Rattle.parking_lot_machine.proofs.Making.{Entries, entries}
+use Rattle.parking_lot_machine.specs.RwLaws.{act_crossing}
+use Rattle.parking_lot_rules.specs.Family as crossings
+use Rattle.parking_lot_rules.specs.Family.{Crossing}
+use Rattle.parking_lot_machine.proofs.Making.{Crossed, Entries, entries}
 use Rattle.parking_lot_machine.proofs.Passing.{IsAround, around_at, own_passes}
 use Rattle.parking_lot_machine.proofs.Starting.{begins, ends, never}
 use Rattle.parking_lot_machine.proofs.Takers.{others_free}
@@ -255,6 +258,13 @@ enter s t c key asked free sound h here =
           (sym (same_section (sym (updated_at s.lot.sections (bucket s (key_of c key)) (Some own)) ∙ there)))
     ])
 
+-- a check crosses no section
+check_stays : (st : Stance) → act_crossing st (Act.Section section.Check) ≡ crossings.Stays
+check_stays Out = refl
+check_stays (In zero how) = refl
+check_stays (In (suc key) how) = refl
+check_stays (Asleep key park) = refl
+
 check : (s : State) (t : ℕ) (c : Call) → core_act c.core ≡ Act.Section section.Check → lot.Sound (checked s t c).lot
     → Keeps t c s (checked s t c)
 check s t c asked sound h here =
@@ -283,12 +293,14 @@ check s t c asked sound h here =
     })
     (λ key. refl)
     (subst (λ (y : Act). Gives y (word_at s c.lock) told) (sym asked) refl) (subst IsOwnAct (sym asked) tt)
-    (subst (λ (y : Act). AfterAct (stance c.core) y t (entries s c.lock) (entries (checked s t c) c.lock)) (sym asked) (
+    (subst (λ (y : Act). AfterAct (stance c.core) y t (entries s c.lock) (entries (checked s t c) c.lock)) (sym asked)
+    (subst (λ (x : Crossing). Crossed x t (entries s c.lock) (entries (checked s t c) c.lock))
+    (sym (check_stays (stance c.core))) (
       tt,
       entered_still s (checked s t c) (key_in c) after (λ b. refl)
           (ap (option_and_then (λ (x : Section). x.thread)) now
           ∙ sym (ap (option_and_then (λ (x : Section). x.thread)) at_key)),
-    ))
+    )))
     (checked_fits s t c h.lots here leads.0 leads.1 leads.3 sound leads.2 leads.4)
     (around_at s (checked s t c) t (key_in c) after (λ b. refl) refl
     (λ x e. ap (λ (y : Section). y.thread) (sym (same_section (sym now ∙ e))) ∙ seat.2) (λ k e. refl))

@@ -341,6 +341,7 @@ module _ (s : State) (h : FitsTogether s) where
   -- where a thread in a call is awake, it can move, or the one inside the section that it is before
   awake_moves : (t : ℕ) (c : Call) → call_at s t ≡ Some c → sleeps (core_act c.core) ≡ false → (u : ℕ)
       × (can_move s u ≡ true)
+  unfolding enters
   awake_moves t c here awake = go (enters (core_act c.core)) refl
     where
       moves : ((k : ℕ) → core_act c.core ≡ Act.Enter k → is_taken s c k ≡ false) → (u : ℕ) × (can_move s u ≡ true)
