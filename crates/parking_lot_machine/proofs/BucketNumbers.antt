@@ -24,7 +24,7 @@ more_times w k (suc n) = let e : suc n + k ≡ suc (n + k) = omega arith in
     omega (arith, ap (doubled w) e, more_once w (n + k), more_times w k n)
 
 -- where more is wanted it is as much, until what is wanted less is there
-AsMuch : ℕ → ℕ → ℕ → Type 0
+abbrev AsMuch : ℕ → ℕ → ℕ → Type 0
 AsMuch w w' k = (doubled w k ≡ doubled w' k) ⊎ ((w ≤ doubled w k) × (doubled w k ≤ doubled w' k))
 
 as_much : (w w' : ℕ) → w ≤ w' → (k : ℕ) → AsMuch w w' k

@@ -2,7 +2,7 @@ use Rattle.std.proofs.Common.{ℕ, Option, Some, refl, ap, ◌∙◌}
 use Rattle.std.specs.Option.{option_map_or}
 use Rattle.parking_lot_core_model.specs.declared.place.Phase.{Phase}
 use Rattle.parking_lot_core_model.specs.declared.place.Section.{Section}
-use Rattle.parking_lot_core_model.specs.Machine.{Machine, given_up, machine, quitted, section_of, step_fault}
+use Rattle.parking_lot_core_model.specs.Machine.{Machine, given_up, in_phase, machine, quitted, section_of, step_fault}
 use Rattle.parking_lot_core_model.specs.Places.{may_store}
 use Rattle.parking_lot_machine.proofs.LateCalls.{now_phase, quits_out, quits_store, unless_none}
 use Rattle.parking_lot_machine.proofs.LotCalls.{own_section}
@@ -24,7 +24,7 @@ returns-clause-within g c =
     let in_it = c.requires.inside in (
       record in_it.0 { phase = Phase.Ended },
       ap (λ (n : Machine). section_of n c.args.thread) (returns-clause-out g c)
-          ∙ own_section _ c.args.thread c.args.key (record in_it.0 { phase = Phase.Ended }) in_it.1
+          ∙ own_section (in_phase (given_up m c.args.thread c.args.key) c.args.key Phase.Ended) c.args.thread c.args.key (record in_it.0 { phase = Phase.Ended }) in_it.1
           (now_phase (given_up m c.args.thread c.args.key) c.args.key in_it.0 Phase.Ended in_it.2),
       in_it.3,
     )

@@ -1,4 +1,4 @@
-use Rattle.std.proofs.Common.{ℕ, suc, ◌+◌, Bool, List, cond, nat_lt, replicate, Option, Some, ap, sym, ◌∙◌, refl}
+use Rattle.std.proofs.Common.{◌≡◌, ℕ, suc, ◌+◌, Bool, List, cond, nat_lt, replicate, Option, Some, ap, sym, ◌∙◌, refl, arith}
 use Rattle.parking_lot_core_model.specs.Buckets.{buckets_for, threads_with}
 use Rattle.parking_lot_core_model.specs.declared.place.Place.{Place}
 use Rattle.parking_lot_core_model.specs.declared.place.Place.TheVariants.{Running}
@@ -8,7 +8,7 @@ use Rattle.parking_lot_machine.proofs.BucketNumbers.{buckets_grow, grown, none_r
 use Rattle.parking_lot_machine.proofs.LotStarts.{next_number, registered_threads_run}
 use Rattle.parking_lot_machine.proofs.new_machine.lot_of.Goals as goal
 
-lot_so : ℕ → Bool → List (Option Place) → ℕ → Machine
+abbrev lot_so : ℕ → Bool → List (Option Place) → ℕ → Machine
 lot_so threads paired places buckets = record (fresh threads 0) {
   paired = paired;
   places = places;
@@ -34,9 +34,9 @@ registers threads paired i =
     ∙ ap (lot_so threads paired (replicate (i + 1) (Some Running))) now
 
 -- nobody is yet
-pub loop-initial : goal.loop-initial
-loop-initial g c =
-    c.in_ok-empty_lot.ensures.made
+pub loop-init : goal.loop-init
+loop-init g c =
+    c.in_ok-lot.ensures.made
     ∙ ap (lot_so c.args.threads c.args.paired (replicate 0 (Some Running))) (sym (none_registered c.args.paired))
 
 pub loop-preserved : goal.loop-preserved
