@@ -4,6 +4,7 @@ use Rattle.parking_lot_core_model.specs.declared.place.Phase.TheVariants as phas
 use Rattle.parking_lot_core_model.specs.declared.place.Section.{Section}
 use Rattle.parking_lot_core_model.specs.Machine.{Machine, any_phase, closed, fresh_section, in_phase, joined, machine}
 use Rattle.parking_lot_core_model.specs.Machine.{open_at, opened, section_of, step_fault}
+use Rattle.parking_lot_core_model.specs.Places.{may_check, may_join}
 use Rattle.parking_lot_core_model.proofs.Entering.{open_within, phase_within}
 use Rattle.parking_lot_core_model.proofs.Kept.{updated_at}
 use Rattle.parking_lot_machine.proofs.LotCalls.{own_section}
@@ -27,6 +28,27 @@ goes m thread key ph =
     (ap (λ (n : Machine). open_at n key) (phase_within m (so_far thread key phase.Fresh) ph)
     ∙ open_within m (so_far thread key ph))
 
+-- once it is to join
+has_checked : (now entered checked : Machine) (thread key : ℕ) → entered ≡ opened now (Some thread) key
+    → ((s : Section) → section_of entered thread ≡ Some s → checked ≡ in_phase entered s.key phase.Valid)
+    → checked ≡ in_phase (opened now (Some thread) key) key phase.Valid
+has_checked now entered checked thread key e f =
+    f (so_far thread key phase.Fresh) (ap (λ m. section_of m thread) e ∙ opens now thread key)
+    ∙ ap (λ m. in_phase m key phase.Valid) e
+
+pub check-requires : goal.check-requires
+check-requires g c = record {
+  inside = ap (λ m. step_fault may_check m c.args.thread) c.enter.ensures.opened ∙ c.requires.may.checks;
+}
+
+pub append-requires : goal.append-requires
+append-requires g c = record {
+  inside = ap (λ m. step_fault may_join m c.args.thread)
+      (has_checked (machine c.args.lot.now) (machine c.enter.new.lot) (machine c.check.new.lot) c.args.thread
+      c.args.key c.enter.ensures.opened c.check.ensures.checked)
+      ∙ c.requires.may.joins;
+}
+
 -- once it has joined
 has_joined : (now entered checked appended : Machine) (thread key : ℕ) → entered ≡ opened now (Some thread) key
     → ((s : Section) → section_of entered thread ≡ Some s → checked ≡ in_phase entered s.key phase.Valid)
@@ -36,8 +58,7 @@ has_joined : (now entered checked appended : Machine) (thread key : ℕ) → ent
     (record { 0 = 0 }) false
 has_joined now entered checked appended thread key e f g =
     let same : checked ≡ in_phase (opened now (Some thread) key) key phase.Valid =
-    f (so_far thread key phase.Fresh) (ap (λ m. section_of m thread) e ∙ opens now thread key)
-    ∙ ap (λ m. in_phase m key phase.Valid) e in
+    has_checked now entered checked thread key e f in
     g (so_far thread key phase.Valid) (ap (λ m. section_of m thread) same ∙ goes now thread key phase.Valid)
     ∙ ap (λ m. joined (in_phase m key phase.Joined) thread key (record { 0 = 0 }) false) same
 
