@@ -26,10 +26,14 @@ either_way true false x y k few more = omega arith
 either_way false true x y k few more = omega arith
 either_way false false x y k few more = omega arith
 
+-- what it is to park, where the section can be entered
+abbrev park_cost : Bool → ℕ
+park_cost shut = cond (not shut) 4 29
+
+parks : {b : Bool} → b ≡ false → park_cost b ≡ 4
+parks free = ap park_cost free
+
 -- A call at a mutex that is in no section, once the word has changed: what was thought of the word may be out of date.
--- where the section can be entered
-parks : {shut : Shut} → shut.first ≡ false → cond (not shut.first) 4 29 ≡ 4
-parks free = ap (λ (b : Bool). cond (not b) 4 29) free
 
 word_costs : (p : MutexPhase) (word first word' first' : ℕ) (shut : Shut) → shut.first ≡ false
     → mutex_rounds p ≤ 10 → mutex_steps (Sees word' first' shut) p ≤ mutex_steps (Sees word first shut) p + 25
@@ -38,7 +42,7 @@ word_costs (MutexPhase.Locks a waiters) word first word' first' shut free few = 
 word_costs (MutexPhase.Parks a) word first word' first' shut free few = either_way (word == 1) (word' == 1) _ _ 25 (omega (arith, parks free))
     (omega (arith, few, parks free))
 word_costs (MutexPhase.Enters woken) word first word' first' shut free few = either_way (word == 3) (word' == 3) _ _ 25
-    (omega arith) (omega (arith, parks free))
+    (omega (arith, parks free)) (omega (arith, parks free))
 word_costs (MutexPhase.Checks woken) word first word' first' shut free few = either_way (word == 3) (word' == 3) _ _ 25
     (omega arith) (omega (arith, parks free))
 word_costs (MutexPhase.TryLocks waiters left) word first word' first' shut free few = either_way (word == 2 * bit waiters)

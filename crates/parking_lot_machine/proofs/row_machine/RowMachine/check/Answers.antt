@@ -1,8 +1,10 @@
 use Rattle.parking_lot_machine.proofs.Calling.{room_set}
-use Rattle.std.proofs.Common.{Bool, cond, sym, ap, ◌∙◌, subst, arith}
+use Rattle.std.proofs.Common.{refl, Bool, cond, sym, ap, ◌∙◌, subst, arith}
 use Rattle.parking_lot_core_model.specs.declared.place.Phase.TheVariants as phase
 use Rattle.parking_lot_core_model.specs.Machine.{Machine, in_phase, machine}
 use Rattle.parking_lot_core_model.specs.Sound.{Sound}
+use Rattle.parking_lot_protocol.specs.declared.act.Act.TheVariants as act
+use Rattle.parking_lot_protocol.specs.declared.act.SectionAct.TheVariants as section
 use Rattle.parking_lot_protocol.specs.declared.act.ActResult.TheVariants as seen
 use Rattle.parking_lot_machine_calls.specs.declared.open_call.Call.{Call}
 use Rattle.parking_lot_machine.specs.Rows.{Rows, State, state}

@@ -1,8 +1,9 @@
 use Rattle.parking_lot_machine.proofs.Calling.{room_settled}
-use Rattle.std.proofs.Common.{ℕ, false, List, map, bit_and, slice_set, Option, Some, sym, ap, ◌∙◌, subst, arith}
+use Rattle.std.proofs.Common.{refl, ℕ, false, List, map, bit_and, slice_set, Option, Some, sym, ap, ◌∙◌, subst, arith}
 use Rattle.std.specs.Option.{option_map}
 use Rattle.parking_lot_core_model.specs.Machine.{Machine, stored, machine}
 use Rattle.parking_lot_core_model.specs.Sound.{Sound}
+use Rattle.parking_lot_protocol.specs.declared.act.Act.TheVariants as act
 use Rattle.parking_lot_protocol.specs.declared.act.ActResult.TheVariants as seen
 use Rattle.parking_lot_machine_calls.specs.declared.open_call.Call.{Call}
 use Rattle.parking_lot_machine_calls.specs.declared.seat.WakeResult.TheVariants as told

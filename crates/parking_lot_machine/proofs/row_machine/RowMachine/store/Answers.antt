@@ -1,9 +1,12 @@
 use Rattle.parking_lot_machine.proofs.Calling.{room_settled}
-use Rattle.std.proofs.Common.{ℕ, List, map, slice_set, Option, Some, sym, ap, ◌∙◌, subst, arith}
+use Rattle.std.proofs.Common.{false, ℕ, List, map, slice_set, Option, Some, sym, ap, ◌∙◌, subst, arith}
 use Rattle.std.specs.Option.{option_map}
 use Rattle.parking_lot_core_model.specs.declared.parking.UnparkToken.{UnparkToken}
 use Rattle.parking_lot_core_model.specs.Machine.{Machine, stored, machine}
 use Rattle.parking_lot_core_model.specs.Sound.{Sound}
+use Rattle.parking_lot_protocol.specs.declared.act.ActResult.TheVariants as seen
+use Rattle.parking_lot_protocol.specs.declared.act.Act.TheVariants as act
+use Rattle.parking_lot_protocol.specs.declared.act.SectionAct.TheVariants as section
 use Rattle.parking_lot_protocol.specs.Acts.{change_of}
 use Rattle.parking_lot_protocol.specs.declared.act.WordChange.{WordChange}
 use Rattle.parking_lot_machine_calls.specs.declared.open_call.Call.{Call}
