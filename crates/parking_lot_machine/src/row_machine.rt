@@ -1,5 +1,5 @@
 //! The machine of locks: words, lists and a call for each thread, moved one atomic step at a time.
-ghost use Rattle.std.specs.Prelude.{◌≡◌, ◌<◌, ◌↔◌, ◌⊎◌, ◌^◌, length, slice_get, Some, None, true, if◌then◌else◌};
+ghost use Rattle.std.specs.Prelude.{◌≡◌, ◌<◌, ◌≤◌, ◌↔◌, ◌⊎◌, ◌^◌, length, slice_get, Some, None, true, if◌then◌else◌};
 ghost use Rattle.std.specs.Prelude.{IsErrOf, IfOk, IfErr, IsTrue};
 ghost use Rattle.parking_lot_core_model.specs.declared.fault.SizeFault.TheVariants.{BadSize, NoMemory};
 ghost use Rattle.parking_lot_protocol.specs.declared.act.Act.TheVariants as act;
@@ -124,6 +124,7 @@ impl<A: Allocator> RowMachine<A> {
     pub fn can_move(&self, thread: usize) -> bool
         ensures { result ≡ can_move (state self.now) thread }
     {
+        let _ = &self.wakes;
         let Some(call) = self.call(thread) else {
             return false;
         };
@@ -137,6 +138,7 @@ impl<A: Allocator> RowMachine<A> {
 
     /// Whether a thread whose moment has passed comes back now, or takes itself out of its list.
     fn goes_late(&self, call: &Call) -> bool
+        requires small { call.now.lock ≤ 2 ^ 62 }
         ensures { result ≡ goes_late (state self.now) call.now call.now.core }
     {
         call.core.is_back()
