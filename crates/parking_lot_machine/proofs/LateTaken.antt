@@ -46,7 +46,7 @@ use Rattle.parking_lot_machine.specs.LateActs.{found, found_lot, unowed}
 use Rattle.parking_lot_machine_calls.specs.LateCalls.{comes_late, found_as, is_handed, is_pending, late_comes}
 use Rattle.parking_lot_machine_calls.specs.LateCalls.{late_key, late_rw_comes}
 use Rattle.parking_lot_machine_calls.specs.LateRoles.{finding, finds_as, sleeper_role, sleeper_wants, stays}
-use Rattle.parking_lot_machine_calls.specs.CallActs.{key_of, told_of}
+use Rattle.parking_lot_machine_calls.specs.CallActs.{told_of}
 use Rattle.parking_lot_machine.specs.RowFits.{FitsTogether, IsPrepared, KnowsList, LotFits, PassesFit, RulesFit}
 use Rattle.parking_lot_machine.specs.RowFits.{WakesFit, is_away, is_off, IsAt}
 use Rattle.parking_lot_machine_calls.specs.CallKinds.{IsOfKind, IsOfManner}

@@ -1,5 +1,5 @@
 -- The lot refuses no call that an act makes.
-use Rattle.std.proofs.Common.{◌≡◌, ◌≢◌, ◌≤◌, ℕ, ◌==◌, ◌&&◌, inl, inr, Bool, true, false, cond, Option, Some, None}
+use Rattle.std.proofs.Common.{◌≡◌, ◌≢◌, ◌≤◌, ℕ, ◌&&◌, inl, inr, Bool, true, false, cond, Option, Some, None}
 use Rattle.std.proofs.Common.{is_some, length, slice_get, refl, sym, ap, ◌∙◌, subst, eq-eqb}
 use Rattle.std.specs.List.{position_or_len}
 use Rattle.std.specs.Option.{option_map, option_map_or, option_and_then}

@@ -4,7 +4,6 @@ use Rattle.std.proofs.Common.{◌∙◌, subst, arith}
 use Rattle.std.proofs.lemmas.Bool.{ne_eqb}
 use Rattle.parking_lot_core_model.specs.declared.parking.ParkToken.{ParkToken}
 use Rattle.parking_lot_core_model.specs.declared.place.Waiter.{Waiter}
-use Rattle.parking_lot_core_model.specs.Places.{place_at}
 use Rattle.parking_lot_core_model.proofs.Kept.{by_eqb}
 use Rattle.parking_lot_machine_calls.specs.declared.seat.WakeResult.{WakeResult}
 use Rattle.parking_lot_machine_calls.specs.declared.seat.QueuePosition.{QueuePosition}

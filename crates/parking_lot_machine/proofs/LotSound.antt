@@ -1,7 +1,7 @@
 -- The lot stays sound in each act.
 use Rattle.std.proofs.Common.{◌≡◌, ◌<◌, ℕ, true, false, List, Option, Some, slice_get, slice_set, refl, sym, ap, ◌∙◌}
 use Rattle.std.proofs.Common.{subst, None, eqb-true}
-use Rattle.std.specs.Option.{option_map, option_and_then}
+use Rattle.std.specs.Option.{option_and_then}
 use Rattle.std.proofs.lemmas.Bool.{false≢true}
 use Rattle.parking_lot_core_model.specs.declared.parking.ParkToken.{ParkToken}
 use Rattle.parking_lot_core_model.specs.declared.parking.UnparkToken.{UnparkToken}

@@ -1,6 +1,6 @@
 -- What is a step of a lock is a step of the machine's family of locks, and keeps it sound: whichever move a call of any
 -- kind makes.
-use Rattle.std.proofs.Common.{◌≡◌, ◌≢◌, ℕ, inl, inr, ◌==◌, cond, Bool, true, false, List, [], ◌∷◌, length, Option, Some}
+use Rattle.std.proofs.Common.{◌≡◌, ◌≢◌, ℕ, inl, inr, Bool, true, false, List, [], ◌∷◌, length, Option, Some}
 use Rattle.std.proofs.Common.{None, slice_get, refl, sym, ap, ◌∙◌, ◌%◌, subst}
 use Rattle.std.proofs.lemmas.Bool.{cases_eq}
 use Rattle.parking_lot_rules.specs.Roles.{Idle, Owned, Role, Stay}

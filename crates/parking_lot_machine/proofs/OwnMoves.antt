@@ -1,5 +1,5 @@
 -- Acts that a thread makes by itself: which moves they are, and who is inside a section then.
-use Rattle.std.proofs.Common.{◌≡◌, ℕ, ◌/◌, ◌==◌, ◌&&◌, cond, Bool, true, false, List, Option}
+use Rattle.std.proofs.Common.{ℕ, ◌/◌, ◌==◌, ◌&&◌, cond, Bool, true, false, List}
 use Rattle.parking_lot_rules.specs.Plain as plain
 use Rattle.parking_lot_rules.specs.Steps.{Alone}
 use Rattle.parking_lot_rules.specs.Family.{crossing}

@@ -1,7 +1,7 @@
 -- A taking goes on past whom it has passed.
 use Rattle.std.proofs.Common.{◌≡◌, ◌<◌, ℕ, ◌+◌, ◌*◌, ◌-◌, ◌^◌, ◌&&◌, inl, inr, not, cond, min, Bool, true, false, List}
 use Rattle.std.proofs.Common.{remove, Option, Some, slice_get, refl, sym, ap, ◌∙◌, subst, arith}
-use Rattle.std.specs.Option.{option_and_then, option_map, option_map_or}
+use Rattle.std.specs.Option.{option_map, option_map_or}
 use Rattle.std.proofs.lemmas.Bool.{cases_eq}
 use Rattle.parking_lot_core_model.specs.Places.{passed_of}
 use Rattle.parking_lot_core_model.specs.Results.{is_left}

@@ -1,6 +1,6 @@
 -- The machine once a thread that was in no call has a call at a mutex, outside of sections: what the locks see of it,
 -- and that the rules' side fits.
-use Rattle.std.proofs.Common.{◌≡◌, ◌≢◌, ℕ, ◌+◌, ◌*◌, ◌%◌, ◌<◌, inl, inr, ◌==◌, Bool, true, false, cond, List, length, Option}
+use Rattle.std.proofs.Common.{◌≡◌, ◌≢◌, ℕ, ◌+◌, ◌*◌, ◌%◌, ◌<◌, inl, inr, ◌==◌, Bool, false, List, length}
 use Rattle.std.proofs.Common.{Some, None, slice_get, slice_set, refl, sym, ap, ◌∙◌, subst, arith}
 use Rattle.std.specs.Option.{option_and_then}
 use Rattle.std.proofs.lemmas.Bool.{cases_eq, ne_eqb}

@@ -1,7 +1,7 @@
 -- What a phase at a reader-writer lock costs that has just seen the word, or that comes after a release.
 use Rattle.std.proofs.Common.{◌≡◌, ◌≤◌, ◌<◌, ℕ, ◌+◌, ◌-◌, ◌*◌, ◌/◌, ◌^◌, ◌==◌, ◌&&◌, ◌||◌, nat_lt, not, Bool, true}
 use Rattle.std.proofs.Common.{false, cond, refl, sym, subst, arith, ◌%◌, min, Option, Some, None, option_map, is_some}
-use Rattle.std.proofs.Common.{ap, ◌∙◌, max}
+use Rattle.std.proofs.Common.{ap, ◌∙◌}
 use Rattle.std.proofs.lemmas.Bool.{both_ways, ltb-true, lt-ltb, eq-eqb, cond_both, and_parts, and_from, eqb-false}
 use Rattle.std.proofs.lemmas.Bool.{ne_eqb, cond-true, cond-false, not_from_false}
 use Rattle.std.specs.Option.{option_map_or}

@@ -1,5 +1,5 @@
 -- The acts that tell and wake: each keeps the machine fit, and is a step of the rules.
-use Rattle.std.proofs.Common.{◌≡◌, ℕ, cond, Bool, false, Option, None, Some, inl, inr, refl, sym, ap, ◌∙◌, ◌≤◌, length}
+use Rattle.std.proofs.Common.{◌≡◌, ℕ, cond, Bool, false, Option, None, Some, refl, sym, ap, ◌∙◌, ◌≤◌, length}
 use Rattle.parking_lot_core_model.specs.declared.parking.UnparkToken.{UnparkToken}
 use Rattle.parking_lot_core_model.specs.Sound as lot
 use Rattle.parking_lot_protocol.specs.declared.act.Act.TheVariants as act

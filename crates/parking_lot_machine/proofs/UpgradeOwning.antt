@@ -1,5 +1,5 @@
 -- Acts that a thread makes by itself in an upgradable call: which moves they are, and where it begins.
-use Rattle.std.proofs.Common.{◌≡◌, ℕ, ◌+◌, ◌%◌, ◌^◌, ◌&&◌, cond, Bool, true, false, List, Option, refl, subst}
+use Rattle.std.proofs.Common.{◌≡◌, ℕ, ◌+◌, ◌%◌, ◌^◌, ◌&&◌, cond, Bool, true, false, List, refl, subst}
 use Rattle.std.proofs.lemmas.Bool.{both_ways}
 use Rattle.parking_lot_rules.specs.Plain.{Plain}
 use Rattle.parking_lot_rules.specs.Roles.{Idle, Owned}

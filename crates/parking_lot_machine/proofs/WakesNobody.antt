@@ -1,6 +1,6 @@
 -- The machine once a thread that was to wake others has woken nobody, since all of them have gone on by themselves:
 -- nothing changes at its lock.
-use Rattle.std.proofs.Common.{◌≡◌, ◌*◌, ◌+◌, ℕ, inr, List, [], Some, slice_get, slice_set, refl, sym, ap, ◌∙◌, subst}
+use Rattle.std.proofs.Common.{◌≡◌, ◌*◌, ◌+◌, ℕ, List, [], Some, slice_get, slice_set, refl, sym, ap, ◌∙◌, subst}
 use Rattle.std.proofs.Common.{arith}
 use Rattle.parking_lot_core_model.specs.declared.parking.ParkToken.{ParkToken}
 use Rattle.parking_lot_rules.specs.Mutex as mutex

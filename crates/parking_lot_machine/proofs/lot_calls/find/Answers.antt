@@ -1,4 +1,4 @@
-use Rattle.std.proofs.Common.{◌≡◌, ◌∙◌, ℕ, ap, false, slice_set, None, Option, Some, refl, sym, subst}
+use Rattle.std.proofs.Common.{◌≡◌, ◌∙◌, ap, false, slice_set, None, Some, refl, sym, subst}
 use Rattle.parking_lot_core_model.specs.declared.parking.UnparkToken.{UnparkToken}
 use Rattle.parking_lot_core_model.specs.declared.place.Place.TheVariants.{Running, Taken}
 use Rattle.parking_lot_core_model.specs.declared.place.Phase.{Phase}

@@ -2,7 +2,7 @@ use Rattle.std.proofs.Common.{◌≡◌, ℕ, suc, ◌+◌, Bool, List, cond, na
 use Rattle.parking_lot_core_model.specs.Buckets.{buckets_for, threads_with}
 use Rattle.parking_lot_core_model.specs.declared.place.Place.{Place}
 use Rattle.parking_lot_core_model.specs.declared.place.Place.TheVariants.{Running}
-use Rattle.parking_lot_core_model.specs.Machine.{Machine, free_number, registered}
+use Rattle.parking_lot_core_model.specs.Machine.{Machine, registered}
 use Rattle.parking_lot_core_model.specs.Runs.{fresh}
 use Rattle.parking_lot_machine.proofs.BucketNumbers.{buckets_grow, grown, none_registered, numbers_grow}
 use Rattle.parking_lot_machine.proofs.LotStarts.{next_number, registered_threads_run}
