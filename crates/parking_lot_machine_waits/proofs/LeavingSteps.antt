@@ -240,7 +240,7 @@ module _ (i j : Joint) (t : ℕ) (asked : Option ℕ) (e er ev : Bool)
   stay_closed : e ≡ false → is_open i ≡ false → is_open j ≡ false
   stay_closed out closed =
       let (locks, variables) = either_false _ _ closed in
-      or_false _ _ (ap is_some (rows.shut (locks_out out) (shut_of (state i.rows).lot.section locks)))
+      or_false _ _ (rows.shut (locks_out out) locks)
       (vars.shut (vars_out out) variables)
 
   pub leaves : Leaves t e asked i j

@@ -1,3 +1,4 @@
+mod AnySections
 pub mod Owning
 pub mod KeptWhole
 pub mod NewWhole
@@ -35,5 +36,4 @@ pub mod RankFew
 pub mod Progress
 pub mod Sections
 pub mod Givers
-pub mod OpenGoes
 pub mod MovingRuns
