@@ -1,5 +1,5 @@
 -- How shards' locks are made.
-use Rattle.std.specs.Prelude.{◌≡◌, ℕ, ◌≤◌, [], length, replicate, None}
+use Rattle.std.specs.Prelude.{◌≡◌, ℕ, ◌≤◌, false, [], length, replicate, None}
 use Rattle.std.specs.List.{All}
 use Rattle.lock_api_desk.specs.Desk.{DeskState}
 use Rattle.parking_lot_machine_calls.specs.declared.calls.LockKind.TheVariants as kind
