@@ -15,3 +15,4 @@ pub mod Requeues
 pub mod Sequences
 pub mod Whole
 pub mod Filtering
+mod LeastBuckets

@@ -2,6 +2,7 @@
 ghost use Rattle.std.specs.Prelude.{◌≡◌, ℕ, Bool, List, Some, None, false, take, drop};
 ghost use Rattle.std.specs.List.{list_any};
 ghost use Rattle.parking_lot_core_model.specs.declared.parking.FilterOp.{FilterOp};
+ghost use Rattle.parking_lot_core_model.specs.Buckets.{BucketsAreLeast};
 ghost use Rattle.parking_lot_core_model.specs.Results.{is_take, chosen_by, passed_by};
 ghost use Rattle.parking_lot_core_model.specs.declared.parking.ParkToken.{ParkToken};
 ghost use Rattle.parking_lot_core_model.specs.declared.parking.UnparkToken.{UnparkToken};
@@ -55,4 +56,10 @@ pub fn unpark_filter_is_its_steps()
 pub fn going_on_is_its_steps()
     ensures { (m : Machine) (thread key : ℕ) → Sound m → open_at m key ≡ None → m.inside thread ≡ None
         → closed (quitted (returned m thread key) thread key) key false ≡ resumed m thread (place_at m.places thread) }
+{}
+
+/// How many buckets threads have is the least power of two that is 16 or more, and three times as many as the threads,
+/// or more.
+pub fn buckets_are_least()
+    ensures { BucketsAreLeast }
 {}

@@ -1,4 +1,6 @@
 -- What a step leaves as it was: the locks and variables, where calls are, who is in one, and closed sections.
+use Rattle.parking_lot_machine_waits.proofs.AnySections.{joined_shut}
+use Rattle.parking_lot_machine.specs.Rows.{first_key}
 use Rattle.parking_lot_machine_waits.specs.Joint.{any_section}
 use Rattle.std.proofs.Common.{◌≡◌, ◌⊎◌, inl, inr, ℕ, zero, suc, Bool, false, List, [], ◌∷◌, Option, Some, None}
 use Rattle.std.proofs.Common.{slice_get, slice_set, refl, sym, ap, ◌∙◌, subst}
@@ -149,13 +151,14 @@ module _ (P : ℕ → Type 0) (asked : Option ℕ) where
       → Left P asked enters s u
   left_taken enters s u v lock timed p x =
       left_written enters s u v (sleeping_call lock timed) p (inr (inl x.kind)) (ap (λ (y : State). y.kinds) x.became)
-      (ap (λ (y : State). y.calls) x.became) (λ o. x.free)
+      (ap (λ (y : State). y.calls) x.became)
+      (λ o. ap any_section x.became ∙ joined_shut s.lot (first_key lock) o v)
 
   pub left_roused : (enters : Bool) (s u : State) (v lock : ℕ) (timed : Bool) → P v → IsRousedIn v lock timed s u
       → Left P asked enters s u
   left_roused enters s u v lock timed p x =
       left_written enters s u v (retrying_call lock timed) p (inr (inl x.kind)) (ap (λ (y : State). y.kinds) x.became)
-      (ap (λ (y : State). y.calls) x.became) (λ o. x.free)
+      (ap (λ (y : State). y.calls) x.became) (λ o. ap any_section x.became ∙ o)
 
   abbrev pub OfEach : List (ℕ × Bool) → Type 0
   OfEach [] = Unit {0}

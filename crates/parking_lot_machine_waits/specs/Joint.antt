@@ -127,7 +127,7 @@ enters_at_lock j k = option_map_or (λ c. core_enters c.core) (row.call_at (stat
 
 -- WHICH STEPS ARE POSSIBLE
 
--- number k can make its step at a lock: it enters no section while one of a variable is open
+-- number k can make its step at a lock: it enters no section beside one in its bucket, or beside one of a variable
 abbrev pub row_goes : Joint → ℕ → Bool
 row_goes j k = rows.can_move (state j.rows) k && not (enters_at_lock j k && is_open_at_variables j)
 
