@@ -7,7 +7,7 @@ use Rattle.parking_lot_core_model.specs.declared.place.Phase.{Phase}
 use Rattle.parking_lot_core_model.specs.declared.place.Section.{Section}
 use Rattle.parking_lot_core_model.specs.Buckets.{any_open}
 use Rattle.parking_lot_core_model.specs.Lists.{updated}
-use Rattle.parking_lot_core_model.specs.Machine.{Machine, bucket_of, closed, in_phase, joined, open_at, opened, stored}
+use Rattle.parking_lot_core_model.specs.Machine.{Machine, bucket_of, closed, fresh_section, in_phase, joined, open_at, opened, stored}
 use Rattle.parking_lot_core_model.proofs.Kept.{by_eqb, updated_at, updated_other}
 use Rattle.parking_lot_machine.specs.Requeues.{lot_with}
 
@@ -60,11 +60,13 @@ none_of_key m key some e = none_at m.sections m.buckets (key % m.buckets) e (ome
 -- where one is open, it is in some bucket
 pub some_open : (secs : ℕ → Option Section) (n : ℕ) → any_open secs n ≡ true → (b : ℕ) × (o : Section) × (secs b ≡ Some o)
 some_open secs zero e = absurd cc
-some_open secs (suc n) e = here (secs n) refl
+some_open secs (suc n) e = here (secs n) refl (λ f. some_open secs n f)
   where
-    here : (o : Option Section) → secs n ≡ o → (b : ℕ) × (x : Section) × (secs b ≡ Some x)
-    here (Some x) is = (n, x, is)
-    here None is = some_open secs n (sym (ap (λ (o : Option Section). is_some o || any_open secs n) is) ∙ e)
+    here : (o : Option Section) → secs n ≡ o
+        → (any_open secs n ≡ true → (b : ℕ) × (x : Section) × (secs b ≡ Some x))
+        → (b : ℕ) × (x : Section) × (secs b ≡ Some x)
+    here (Some x) is later = (n, x, is)
+    here None is later = later (sym (ap (λ (o : Option Section). is_some o || any_open secs n) is) ∙ e)
 
 -- one changes, which isn't open but where it was
 fewer_at : (secs : ℕ → Option Section) (k : ℕ) (o : Option Section)
@@ -98,6 +100,12 @@ module _ (m : Machine) (key : ℕ) (e : any_open m.sections m.buckets ≡ false)
   close_shut woken = any_fewer m.sections (closed m key woken).sections m.buckets
       (fewer_at m.sections (bucket_of m key) None (λ some. none_open_there some)) e
 
+  -- other buckets stay
+  goes_elsewhere : (n : Machine) (ph : Phase) (i : ℕ) → (i == bucket_of n key) ≡ false
+      → (in_phase n key ph).sections i ≡ n.sections i
+  goes_elsewhere n ph i e = updated_other n.sections (bucket_of n key)
+      (option_map {T = Section} (λ s. record s { phase = ph }) (open_at n key)) i e
+
   -- a thread that joins a list in a section of its own has left it
   pub joined_shut : (v : ℕ) → any_open (lot_with m v key).sections m.buckets ≡ false
   joined_shut v =
@@ -110,5 +118,5 @@ module _ (m : Machine) (key : ℕ) (e : any_open m.sections m.buckets ≡ false)
       (λ e. none_open_there
       (sym (ap is_some (ap (updated q.sections b None) e ∙ updated_at q.sections b None)) ∙ some))
       (λ e. sym (ap is_some (updated_other q.sections b None i e
-      ∙ (updated_other p.sections b (q.sections b) i e
-      ∙ (updated_other o.sections b (p.sections b) i e ∙ updated_other m.sections b (o.sections b) i e)))) ∙ some)) e
+      ∙ (goes_elsewhere p Phase.Joined i e ∙ (goes_elsewhere o Phase.Valid i e
+      ∙ updated_other m.sections b (Some (fresh_section (Some v) key)) i e)))) ∙ some)) e

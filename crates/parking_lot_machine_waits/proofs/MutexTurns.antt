@@ -1,6 +1,5 @@
 -- What a wait does at its mutex leaves a machine whole: it gives it up, and locks it again.
 use Rattle.parking_lot_machine_waits.specs.Joint.{any_section}
-use Rattle.parking_lot_machine_waits.proofs.AnySections.{none_open}
 use Rattle.std.proofs.Common.{◌≡◌, ◌≢◌, ◌⊎◌, ℕ, ◌+◌, ◌<◌, Bool, true, false, not, cond, is_some, List, length, Option}
 use Rattle.std.proofs.Common.{Some, None, slice_get, slice_set, refl, sym, ap, ◌∙◌, subst}
 use Rattle.std.specs.Option.{unwrap_or}

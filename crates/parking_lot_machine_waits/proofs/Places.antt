@@ -1,5 +1,5 @@
 -- What a step at the locks leaves of each number: the lock of its call, what its call is for, and what it owns.
-use Rattle.std.proofs.Common.{◌≡◌, ◌≢◌, inl, inr, ℕ, ◌+◌, ◌*◌, ◌==◌, ◌<◌, Bool, true, false, cond, nat_lt, List, length}
+use Rattle.std.proofs.Common.{◌||◌, ◌≡◌, ◌≢◌, inl, inr, ℕ, ◌+◌, ◌*◌, ◌==◌, ◌<◌, Bool, true, false, cond, nat_lt, List, length}
 use Rattle.std.proofs.Common.{Option, Some, None, option_map, slice_set, refl, sym, ap, ◌∙◌, subst, arith, eq-eqb}
 use Rattle.std.specs.Option.{option_map_or}
 use Rattle.std.proofs.lemmas.Bool.{cases_lt, ltb-true}

@@ -11,13 +11,12 @@ use Rattle.parking_lot_core_model.specs.Places.{place_at}
 use Rattle.parking_lot_protocol.specs.declared.act.ActResult.TheVariants as seen
 use Rattle.parking_lot_machine_calls.specs.declared.seat.LatePhase.{LatePhase}
 use Rattle.parking_lot_machine_calls.specs.CallActs.{key_of}
-use Rattle.parking_lot_machine_calls.specs.Kinds.{recursive_in}
-use Rattle.parking_lot_machine_calls.specs.LateCalls.{comes_late, late_key}
-use Rattle.parking_lot_machine_calls.specs.Stances.{Asleep, Doing, In, Out, Stance, stance}
+use Rattle.parking_lot_machine_calls.specs.LateCalls.{late_key}
+use Rattle.parking_lot_machine_calls.specs.Stances.{Asleep, Doing, In, Out, Stance, lying, sleeper_stance, stance}
+use Rattle.parking_lot_machine_calls.specs.declared.late_rw.LateRwPhase.{LateRwPhase}
 use Rattle.parking_lot_machine_calls.proofs.Stancing.{leads_by}
 use Rattle.parking_lot_machine.specs.RowFits.{FitsTogether, Stands as RowStands}
 use Rattle.parking_lot_machine.specs.Rows.{open_at}
-use Rattle.parking_lot_machine.proofs.LateKinds.{comes}
 use Rattle.parking_lot_machine.proofs.LotActs.{seat_of}
 use Rattle.parking_lot_machine_waits.specs.Joint.{core_enters, is_entry}
 use Rattle.parking_lot_machine_waits.specs.JointProgress.{SomebodyInsideGoes}
@@ -124,31 +123,31 @@ act_inside c (Act.Section next) k how e is = refl
 act_inside c Act.Sleep k how e is = refl
 act_inside c (Act.Done answer) k how e is = refl
 
+-- whoever lies in a list is in none
+lying_in : (a : Stance) (k : ℕ) (how : Doing) → lying a ≡ In k how → ⊥
+lying_in Out k how e = cc
+lying_in (In key doing) k how e = cc
+lying_in (Asleep key park) k how e = cc
+
 -- one that is in a section of a lock enters none
 inside_enters_none : (s : State) → FitsTogether s → (t : ℕ) (d : Call) → row_call_at s t ≡ Some d → (key : ℕ)
     → s.lot.inside t ≡ Some key → core_enters d.core ≡ false
 inside_enters_none s h t d here key in_it =
     go (stance d.core) refl (seat_of s h.lots t d (stance d.core) here refl)
   where
-    late : (b : Bool) → comes_late d.core ≡ b → (k : ℕ) (how : Doing) → stance d.core ≡ In k how
-        → comes_late d.core ≡ false
-    late true e k how is = absurd (asleep_in
-        (sym (comes (recursive_in s.kinds d.lock) d.others d.core e (h.rules.prepared t d here)).lies ∙ is))
-    late false e k how is = e
-
-    by_core : (c : RowCore) → d.core ≡ c → (k : ℕ) (how : Doing) → stance c ≡ In k how → comes_late c ≡ false
-        → core_enters c ≡ false
-    by_core (row_core.Mutex m) same k how is never = act_inside (row_core.Mutex m) _ k how refl is
-    by_core (row_core.Rw m) same k how is never = act_inside (row_core.Rw m) _ k how refl is
-    by_core (row_core.Upgrade m) same k how is never = act_inside (row_core.Upgrade m) _ k how refl is
-    by_core (row_core.Late LatePhase.Expires) same k how is never = absurd cc
-    by_core (row_core.Late p) same k how is never = refl
-    by_core (row_core.LateRw p) same k how is never = never
+    by_core : (c : RowCore) (k : ℕ) (how : Doing) → stance c ≡ In k how → core_enters c ≡ false
+    by_core (row_core.Mutex m) k how is = act_inside (row_core.Mutex m) _ k how refl is
+    by_core (row_core.Rw m) k how is = act_inside (row_core.Rw m) _ k how refl is
+    by_core (row_core.Upgrade m) k how is = act_inside (row_core.Upgrade m) _ k how refl is
+    by_core (row_core.Late LatePhase.Expires) k how is = absurd (asleep_in is)
+    by_core (row_core.Late p) k how is = refl
+    by_core (row_core.LateRw (LateRwPhase.Expires z)) k how is = absurd (lying_in (sleeper_stance z) k how is)
+    by_core (row_core.LateRw p) k how is = refl
 
     go : (a : Stance) → stance d.core ≡ a
         → RowStands t d.lock a d.spot (place_at s.lot.places t) (s.lot.inside t) (open_at s) → core_enters d.core ≡ false
     go Out e st = absurd (none-some key (sym st.1 ∙ in_it))
-    go (In k how) e st = by_core d.core refl k how e (late (comes_late d.core) refl k how e)
+    go (In k how) e st = by_core d.core k how e
     go (Asleep k park) e st = absurd (none-some key (sym st.1 ∙ in_it))
 
 -- WHO IS AWAKE
@@ -263,17 +262,21 @@ module _ (j : Joint) (h : IsWhole j) (fits : PartsFit j) (strict : Bool) where
         outside_too (var_goes j t c (var_at j v)) (enters c) strict
         (acts t v c x at here (ap (is_own_by c.listed) is ∙ own) (inl out)) out
 
+    -- a turn that begins a call at the mutex enters none
+    gives_on : turn_as turn.Acts t v c ≡ true → (var_goes j t c (var_at j v) && true) ≡ true
+    gives_on goes = and_too (var_goes j t c (var_at j v)) false (both_true _ _ goes).0 refl
+
     wait_inside : (listed : Bool) (p : WaitPhase) → c.listed ≡ listed → c.core ≡ core.Wait (record { phase = p })
         → wait_is_inside listed p ≡ true → turn_as (wait_turn listed p) t v c ≡ true
     wait_inside listed (w.Checks k) e is i = acts_in _ is refl refl
     wait_inside listed w.Retreats e is i = acts_in _ is refl refl
     wait_inside listed (w.Appends k) e is i = acts_in _ is refl refl
     wait_inside listed (w.Shows k) e is i = acts_in _ is refl refl
-    wait_inside listed (w.Rests k) e is i = acts_in _ is refl refl
+    wait_inside listed (w.Rests k) e is i = gives_on (acts_in _ is refl refl)
     wait_inside true (w.Quits k) e is i = acts_in _ is e refl
     wait_inside false (w.Quits k) e is i = absurd cc
     wait_inside listed w.Forgets e is i = acts_in _ is refl refl
-    wait_inside listed (w.Leaves true) e is i = acts_in _ is refl refl
+    wait_inside listed (w.Leaves true) e is i = gives_on (acts_in _ is refl refl)
     wait_inside listed (w.Leaves false) e is i = absurd cc
     wait_inside listed (w.Waiting k) e is i = absurd cc
     wait_inside listed w.Stranger e is i = absurd cc
@@ -506,7 +509,7 @@ module _ (j : Joint) (h : IsWhole j) (fits : PartsFit j) (strict : Bool) where
         it_goes d here can t b low at = (
           t,
           number_goes t b d low givers (sym (ap (row_call_at s) at) ∙ here)
-              (sym (ap (row_goes j) at) ∙ row_free w can),
+              (sym (ap row_as at) ∙ row_free w can (enters_none d here)),
         )
           where
             givers : GiversGo t
@@ -644,13 +647,14 @@ module _ (j : Joint) (h : IsWhole j) (fits : PartsFit j) (strict : Bool) where
           by_phase false (w.Sleeps k) e is x = calling asks (seat_at j t).second _ (unlisted (w.Sleeps k) _ e refl x.back)
           by_phase true (w.Expires k) e is x = acting _ is e (ap (λ b. may_turn (wait_turn b (w.Expires k)) j t v c) e)
           by_phase false (w.Expires k) e is x =
-              goes (ap (λ (y : Core). may_turn (turn_by c.listed y) j t v c) is
-              ∙ ap (λ b. may_turn (wait_turn b (w.Expires k)) j t v c) e)
+              goes (laxly (turn_of c) (ap (λ (y : Core). may_turn (turn_by c.listed y) j t v c) is
+              ∙ ap (λ b. may_turn (wait_turn b (w.Expires k)) j t v c) e))
           by_phase true (w.Quits k) e is x = acting _ is e (ap (λ b. may_turn (wait_turn b (w.Quits k)) j t v c) e)
           by_phase false (w.Quits k) e is x = calling asks (seat_at j t).second _ (unlisted (w.Quits k) _ e refl x.back)
           by_phase listed w.Forgets e is x = acting _ is refl refl
           by_phase listed (w.Leaves true) e is x = acting _ is refl refl
-          by_phase listed (w.Resumes token) e is x = goes (ap (λ (y : Core). may_turn (turn_by c.listed y) j t v c) is)
+          by_phase listed (w.Resumes token) e is x = goes (laxly (turn_of c)
+              (ap (λ (y : Core). may_turn (turn_by c.listed y) j t v c) is))
           by_phase listed (w.Locks timed_out) e is x = calling asks_on (seat_at j t).second _ x.back
           by_phase listed (w.Ends a) e is x = acting _ is refl refl
           by_phase listed (w.Leaves false) e is x = absurd x.front
@@ -669,9 +673,12 @@ module _ (j : Joint) (h : IsWhole j) (fits : PartsFit j) (strict : Bool) where
           by_notice (n.Forgets notice) is x = acting _ is refl refl
           by_notice (n.Leaves notice) is x = acting _ is refl refl
           by_notice (n.Ends count) is x = acting _ is refl refl
-          by_notice (n.Marks all) is x = goes (ap (λ (y : Core). may_turn (turn_by c.listed y) j t v c) is)
-          by_notice (n.MarksRest notice) is x = goes (ap (λ (y : Core). may_turn (turn_by c.listed y) j t v c) is)
-          by_notice (n.Wakes count) is x = goes (ap (λ (y : Core). may_turn (turn_by c.listed y) j t v c) is)
+          by_notice (n.Marks all) is x = goes (laxly (turn_of c)
+              (ap (λ (y : Core). may_turn (turn_by c.listed y) j t v c) is))
+          by_notice (n.MarksRest notice) is x = goes (laxly (turn_of c)
+              (ap (λ (y : Core). may_turn (turn_by c.listed y) j t v c) is))
+          by_notice (n.Wakes count) is x = goes (laxly (turn_of c)
+              (ap (λ (y : Core). may_turn (turn_by c.listed y) j t v c) is))
           by_notice (n.Notifying all) is x = absurd (x.turns refl)
           by_notice (n.Moves all locked) is x = absurd (x.turns refl)
           by_notice n.Invalid is x = absurd (x.turns refl)
@@ -720,22 +727,19 @@ somebody_inside_goes awake somebody j h fits out opened = inside_moves awake som
 pub somebody_can_move : Always AwakeCanMove → Always RowSomebodyCanMove → SomebodyCanMove
 somebody_can_move awake somebody j t h fits out low called = by_variables (is_open_at_variables j) refl
   where
-    abbrev Moves : Type 0
-    Moves = ((u : ℕ) × (may_go j u ≡ true)) ⊎ (IsListed j t ⊎ IsKeptOut j t)
-
     loosely : Somebody j h fits false → (u : ℕ) × (may_go j u ≡ true)
     loosely (u, goes) = (u, (both_true _ _ goes).0)
 
-    quietly : (Somebody j h fits false) ⊎ (IsListed j t ⊎ IsKeptOut j t) → Moves
+    quietly : (Somebody j h fits false) ⊎ (IsListed j t ⊎ IsKeptOut j t) → ((u : ℕ) × (may_go j u ≡ true)) ⊎ (IsListed j t ⊎ IsKeptOut j t)
     quietly (inl x) = inl (loosely x)
     quietly (inr x) = inr x
 
-    by_locks : is_open_at_variables j ≡ false → (b : Bool) → is_open_at_locks j ≡ b → Moves
+    by_locks : is_open_at_variables j ≡ false → (b : Bool) → is_open_at_locks j ≡ b → ((u : ℕ) × (may_go j u ≡ true)) ⊎ (IsListed j t ⊎ IsKeptOut j t)
     by_locks shut false is = quietly (quiet j h fits false out awake somebody shut is refl t low called)
     by_locks shut true is =
         let (b, o, at) = some_open (state j.rows).lot.sections (state j.rows).lot.buckets is in
         inl (loosely (in_section j h fits false out awake somebody shut b o at))
 
-    by_variables : (b : Bool) → is_open_at_variables j ≡ b → Moves
+    by_variables : (b : Bool) → is_open_at_variables j ≡ b → ((u : ℕ) × (may_go j u ≡ true)) ⊎ (IsListed j t ⊎ IsKeptOut j t)
     by_variables true is = inl (loosely (var_open j h fits false is))
     by_variables false is = by_locks is (is_open_at_locks j) refl

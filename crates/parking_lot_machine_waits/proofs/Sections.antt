@@ -166,7 +166,7 @@ joined_out m v key k none =
 -- those that are moved come into none
 are_out : (seats : List Seat) (x : Var) (lock : ℕ) (ws : List ℕ) (s u : State) → AreMoved seats x lock ws s u
     → NobodyComes (inside s) (inside u)
-are_out seats x lock [] s u e = none_comes (inside s) (inside u) (ap inside e)
+are_out seats x lock [] s u e k none = none_comes (inside s) (inside u) (ap inside e) k none
 are_out seats x lock (v ∷ ws) s u (m, first, rest) k none =
     are_out seats x lock ws m u rest k
     (ap (λ (y : State). inside y k) first.became
@@ -174,8 +174,8 @@ are_out seats x lock (v ∷ ws) s u (m, first, rest) k none =
 
 pub moved_shut : (locked : Bool) (seats : List Seat) (x : Var) (lock : ℕ) (ws : List ℕ) (s u : State)
     → AreMovedAs locked seats x lock ws s u → NobodyComes (inside s) (inside u)
-moved_shut true seats x lock ws s u moved = are_out seats x lock ws s u moved
-moved_shut false seats x lock [] s u e = none_comes (inside s) (inside u) (ap inside e)
+moved_shut true seats x lock ws s u moved k none = are_out seats x lock ws s u moved k none
+moved_shut false seats x lock [] s u e k none = none_comes (inside s) (inside u) (ap inside e) k none
 moved_shut false seats x lock (v ∷ ws) s u (m, first, rest) k none =
     are_out seats x lock ws m u rest k (ap (λ (y : State). inside y k) first.became ∙ none)
 
