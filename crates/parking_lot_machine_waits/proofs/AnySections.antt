@@ -1,7 +1,8 @@
 -- Whether a section of some lock is open, once one goes on or is closed.
-use Rattle.std.proofs.Common.{◌≡◌, ◌<◌, ◌%◌, ◌==◌, ◌||◌, ℕ, zero, suc, Bool, true, false, Option, Some, None, is_some, option_map}
+use Rattle.std.proofs.Common.{◌≡◌, ◌<◌, ◌+◌, ◌%◌, ◌==◌, ◌||◌, ℕ, zero, suc, Bool, true, false, Option, Some, None, is_some, option_map}
 use Rattle.std.proofs.Common.{refl, sym, ap, ◌∙◌, subst, arith}
 use Rattle.std.proofs.lemmas.Bool.{eqb-false}
+use Rattle.std.proofs.Math.Nat.{mod-eq_of_lt}
 use Rattle.parking_lot_core_model.specs.declared.parking.UnparkToken.{UnparkToken}
 use Rattle.parking_lot_core_model.specs.declared.place.Phase.{Phase}
 use Rattle.parking_lot_core_model.specs.declared.place.Section.{Section}
@@ -67,6 +68,22 @@ some_open secs (suc n) e = here (secs n) refl (λ f. some_open secs n f)
         → (b : ℕ) × (x : Section) × (secs b ≡ Some x)
     here (Some x) is later = (n, x, is)
     here None is later = later (sym (ap (λ (o : Option Section). is_some o || any_open secs n) is) ∙ e)
+
+-- a number that is less than so many is its own remainder: one bucket more, and one that is open
+pub one_more : (secs : ℕ → Option Section) (n k : ℕ) → k < n → any_open secs k ≡ false
+    → is_some (secs (k % n)) ≡ false → any_open secs (k + 1) ≡ false
+one_more secs n k low e none =
+    let more : k + 1 ≡ suc k = omega arith in
+    ap (any_open secs) more ∙ and_none (is_some (secs k)) (any_open secs k)
+    (ap (λ (i : ℕ). is_some (secs i)) (sym (mod-eq_of_lt low)) ∙ none) e
+
+pub some_there : (secs : ℕ → Option Section) (n k : ℕ) → k < n → is_some (secs (k % n)) ≡ true → any_open secs n ≡ true
+some_there secs n k low some = go (any_open secs n) refl
+  where
+    go : (b : Bool) → any_open secs n ≡ b → any_open secs n ≡ true
+    go true e = e
+    go false e = both_ways (is_some (secs k)) (ap (λ (i : ℕ). is_some (secs i)) (sym (mod-eq_of_lt low)) ∙ some)
+        (ap is_some (none_at secs n k e low))
 
 -- one changes, which isn't open but where it was
 fewer_at : (secs : ℕ → Option Section) (k : ℕ) (o : Option Section)
