@@ -36,57 +36,57 @@ none_of_some (Some x) e = absurd (false≢true (sym e))
 module _ (buckets : ℕ) (ss : ℕ → Option Section) (inside : ℕ → Option ℕ) (h : SectionsFit buckets ss inside) where
   -- a section that is new in a bucket where none was
   module _ (n : Section) (free : ss (n.key % buckets) ≡ None) (outside : (t : ℕ) → n.thread ≡ Some t → inside t ≡ None)
-      where
-    abbrev after : ℕ → Option Section
-    after = updated ss (n.key % buckets) (Some n)
+    where
+      abbrev after : ℕ → Option Section
+      after = updated ss (n.key % buckets) (Some n)
 
-    -- those elsewhere stay
-    pub stays_beside : (b : ℕ) (s : Section) → ss b ≡ Some s → after b ≡ Some s
-    stays_beside b s at = by_eqb b (n.key % buckets) (after b ≡ Some s)
-        (λ e. absurd (none≢some (sym free ∙ (ap ss (sym e) ∙ at))))
-        (λ e. updated_other ss (n.key % buckets) (Some n) b e ∙ at)
+      -- those elsewhere stay
+      pub stays_beside : (b : ℕ) (s : Section) → ss b ≡ Some s → after b ≡ Some s
+      stays_beside b s at = by_eqb b (n.key % buckets) (after b ≡ Some s)
+          (λ e. absurd (none≢some (sym free ∙ (ap ss (sym e) ∙ at))))
+          (λ e. updated_other ss (n.key % buckets) (Some n) b e ∙ at)
 
-    -- what stands somewhere is the new one, or was there
-    pub was_beside : (b : ℕ) (s : Section) (P : Type 0) → after b ≡ Some s → (b ≡ n.key % buckets → n ≡ s → P)
-        → (ss b ≡ Some s → P) → P
-    was_beside b s P at new old = by_eqb b (n.key % buckets) P
-        (λ e. new e (same_some (sym (updated_at ss (n.key % buckets) (Some n)) ∙ (ap after (sym e) ∙ at))))
-        (λ e. old (sym (updated_other ss (n.key % buckets) (Some n) b e) ∙ at))
+      -- what stands somewhere is the new one, or was there
+      pub was_beside : (b : ℕ) (s : Section) (P : Type 0) → after b ≡ Some s → (b ≡ n.key % buckets → n ≡ s → P)
+          → (ss b ≡ Some s → P) → P
+      was_beside b s P at new old = by_eqb b (n.key % buckets) P
+          (λ e. new e (same_some (sym (updated_at ss (n.key % buckets) (Some n)) ∙ (ap after (sym e) ∙ at))))
+          (λ e. old (sym (updated_other ss (n.key % buckets) (Some n) b e) ∙ at))
 
-    -- who is in a section now
-    in_now : (o : Option ℕ) → ((t : ℕ) → o ≡ Some t → inside t ≡ None) → (t k : ℕ) (P : Type 0)
-        → let_in o n.key inside t ≡ Some k → (o ≡ Some t → n.key ≡ k → P) → (inside t ≡ Some k → P) → P
-    in_now None out t k P at new old = old at
-    in_now (Some v) out t k P at new old = by_eqb t v P
-        (λ e. new (ap (λ x. Some x) (sym e))
-        (same_some (sym (updated_at inside v (Some n.key)) ∙ (ap (updated inside v (Some n.key)) (sym e) ∙ at))))
-        (λ e. old (sym (updated_other inside v (Some n.key) t e) ∙ at))
+      -- who is in a section now
+      in_now : (o : Option ℕ) → ((t : ℕ) → o ≡ Some t → inside t ≡ None) → (t k : ℕ) (P : Type 0)
+          → let_in o n.key inside t ≡ Some k → (o ≡ Some t → n.key ≡ k → P) → (inside t ≡ Some k → P) → P
+      in_now None out t k P at new old = old at
+      in_now (Some v) out t k P at new old = by_eqb t v P
+          (λ e. new (ap (λ x. Some x) (sym e))
+          (same_some (sym (updated_at inside v (Some n.key)) ∙ (ap (updated inside v (Some n.key)) (sym e) ∙ at))))
+          (λ e. old (sym (updated_other inside v (Some n.key) t e) ∙ at))
 
-    its_own : (o : Option ℕ) (t : ℕ) → o ≡ Some t → let_in o n.key inside t ≡ Some n.key
-    its_own None t e = absurd (none≢some e)
-    its_own (Some v) t e = ap (updated inside v (Some n.key)) (sym (same_some e)) ∙ updated_at inside v (Some n.key)
+      its_own : (o : Option ℕ) (t : ℕ) → o ≡ Some t → let_in o n.key inside t ≡ Some n.key
+      its_own None t e = absurd (none≢some e)
+      its_own (Some v) t e = ap (updated inside v (Some n.key)) (sym (same_some e)) ∙ updated_at inside v (Some n.key)
 
-    still_in : (o : Option ℕ) → ((t : ℕ) → o ≡ Some t → inside t ≡ None) → (t k : ℕ) → inside t ≡ Some k
-        → let_in o n.key inside t ≡ Some k
-    still_in None out t k at = at
-    still_in (Some v) out t k at = by_eqb t v (updated inside v (Some n.key) t ≡ Some k)
-        (λ e. absurd (none≢some (sym (out v refl) ∙ (ap inside (sym e) ∙ at))))
-        (λ e. updated_other inside v (Some n.key) t e ∙ at)
+      still_in : (o : Option ℕ) → ((t : ℕ) → o ≡ Some t → inside t ≡ None) → (t k : ℕ) → inside t ≡ Some k
+          → let_in o n.key inside t ≡ Some k
+      still_in None out t k at = at
+      still_in (Some v) out t k at = by_eqb t v (updated inside v (Some n.key) t ≡ Some k)
+          (λ e. absurd (none≢some (sym (out v refl) ∙ (ap inside (sym e) ∙ at))))
+          (λ e. updated_other inside v (Some n.key) t e ∙ at)
 
-    pub fits_beside : SectionsFit buckets after (let_in n.thread n.key inside)
-    fits_beside = record {
-      some = h.some;
-      bucket = λ b s at. was_beside b s (s.key % buckets ≡ b) at
-          (λ e same. ap (λ (x : Section). x.key % buckets) (sym same) ∙ sym e) (h.bucket b s);
-      owner = λ b s t at whose. was_beside b s (let_in n.thread n.key inside t ≡ Some s.key) at
-          (λ e same. its_own n.thread t (ap (λ (x : Section). x.thread) same ∙ whose)
-          ∙ ap (λ (x : Section). Some x.key) same)
-          (λ old. still_in n.thread outside t s.key (h.owner b s t old whose));
-      entered = λ t k at. in_now n.thread outside t k
-          ((s : Section) × (after (k % buckets) ≡ Some s) × (s.key ≡ k) × (s.thread ≡ Some t)) at
-          (λ whose e. (n, ap (λ j. after (j % buckets)) (sym e) ∙ updated_at ss (n.key % buckets) (Some n), e, whose))
-          (λ old. let x = h.entered t k old in (x.0, stays_beside (k % buckets) x.0 x.1, x.2, x.3));
-    }
+      pub fits_beside : SectionsFit buckets after (let_in n.thread n.key inside)
+      fits_beside = record {
+        some = h.some;
+        bucket = λ b s at. was_beside b s (s.key % buckets ≡ b) at
+            (λ e same. ap (λ (x : Section). x.key % buckets) (sym same) ∙ sym e) (h.bucket b s);
+        owner = λ b s t at whose. was_beside b s (let_in n.thread n.key inside t ≡ Some s.key) at
+            (λ e same. its_own n.thread t (ap (λ (x : Section). x.thread) same ∙ whose)
+            ∙ ap (λ (x : Section). Some x.key) same)
+            (λ old. still_in n.thread outside t s.key (h.owner b s t old whose));
+        entered = λ t k at. in_now n.thread outside t k
+            ((s : Section) × (after (k % buckets) ≡ Some s) × (s.key ≡ k) × (s.thread ≡ Some t)) at
+            (λ whose e. (n, ap (λ j. after (j % buckets)) (sym e) ∙ updated_at ss (n.key % buckets) (Some n), e, whose))
+            (λ old. let x = h.entered t k old in (x.0, stays_beside (k % buckets) x.0 x.1, x.2, x.3));
+      }
 
   -- a section that comes on
   module _ (key : ℕ) (f : Section → Section) (same_thread : (s : Section) → (f s).thread ≡ s.thread)

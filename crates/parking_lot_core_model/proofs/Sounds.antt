@@ -490,8 +490,7 @@ module _ (m : Machine) (woken : Bool) (h : Sound m) (s0 : Section) (at0 : open_a
         waits = λ u k. h.waits u k ∙ (waits_same k (place_at m.places u) ∙ ap (times_at k) (sym (at u)));
         held = λ u k is.
             let x = held_by k (place_at m.places u) (sym (ap (λ o. option_map_or (is_held k) o false) (at u)) ∙ is) in
-            let y = h.held u k x.0 in
-            (
+            let y = h.held u k x.0 in (
               y.0,
               stays_open m.buckets m.sections m.inside h.fit s0 at0 (bucket_of m k) y.0 y.1
                   (λ e. false≢true (sym x.1 ∙ eq-eqb k s0.key (sym y.2 ∙ ap (λ (z : Section). z.key) (sym e)))),

@@ -164,44 +164,44 @@ nobody_told key token b (o ∷ ps) none = ap (λ x. x ∷ map (option_map (told 
 
 module _ (m : Machine) (key : ℕ) (token : UnparkToken)
     (quiet : (t : ℕ) → option_map_or (is_held key) (place_at m.places t) false ≡ false) (free : open_at m key ≡ None)
-    where
-  woken_places : (ws : List Waiter)
-      → map (option_map (told key token true)) (all_changed (held key) m.places (threads_of ws)) ≡ all_changed
-      (woken key token) m.places (threads_of ws)
-  woken_places ws =
-      told_all (held key) (woken key token) (told key token true) (told_woken key token) m.places (threads_of ws)
-      ∙ ap (λ (xs : List (Option Place)). all_changed (woken key token) xs (threads_of ws))
-      (nobody_told key token true m.places quiet)
+  where
+    woken_places : (ws : List Waiter)
+        → map (option_map (told key token true)) (all_changed (held key) m.places (threads_of ws)) ≡ all_changed
+        (woken key token) m.places (threads_of ws)
+    woken_places ws =
+        told_all (held key) (woken key token) (told key token true) (told_woken key token) m.places (threads_of ws)
+        ∙ ap (λ (xs : List (Option Place)). all_changed (woken key token) xs (threads_of ws))
+        (nobody_told key token true m.places quiet)
 
-  -- a section that took some, and closes, has woken them: from any phase, and whosever it is
-  pub closed_taken_by : (s : Section) → IsOutside m s.thread → (ws rest : List Waiter)
-      → closed (stored (within (all_taken m key ws rest) (record s { key = key })) key token) key true ≡ unparked m key ws
-      rest token
-  closed_taken_by s outside ws rest =
-      let n = all_taken m key ws rest in
-      let s0 : Section = record s { key = key } in
-      ap (λ (x : Machine). closed x key true) (stored_within n s0 token)
-      ∙ (closed_within n (record s0 { phase = phase.Stored; token = token }) true free outside
-      ∙ ap (λ (ps : List (Option Place)). record n { places = ps }) (woken_places ws))
+    -- a section that took some, and closes, has woken them: from any phase, and whosever it is
+    pub closed_taken_by : (s : Section) → IsOutside m s.thread → (ws rest : List Waiter)
+        → closed (stored (within (all_taken m key ws rest) (record s { key = key })) key token) key true ≡ unparked m key ws
+        rest token
+    closed_taken_by s outside ws rest =
+        let n = all_taken m key ws rest in
+        let s0 : Section = record s { key = key } in
+        ap (λ (x : Machine). closed x key true) (stored_within n s0 token)
+        ∙ (closed_within n (record s0 { phase = phase.Stored; token = token }) true free outside
+        ∙ ap (λ (ps : List (Option Place)). record n { places = ps }) (woken_places ws))
 
-  pub closed_taken : (ws rest : List Waiter)
-      → closed (stored (all_taken (opened m None key) key ws rest) key token) key true ≡ unparked m key ws rest token
-  closed_taken ws rest = closed_taken_by (fresh_section None key) (λ t e. absurd (none≢some e)) ws rest
+    pub closed_taken : (ws rest : List Waiter)
+        → closed (stored (all_taken (opened m None key) key ws rest) key token) key true ≡ unparked m key ws rest token
+    closed_taken ws rest = closed_taken_by (fresh_section None key) (λ t e. absurd (none≢some e)) ws rest
 
-  -- so has one that also moved some
-  pub closed_moved : (to : ℕ) (ws rest ms left : List Waiter)
-      → closed (stored (moved (all_taken (opened m None key) key ws rest) key to ms left) key token) key true ≡ moved
-      (unparked m key ws rest token) key to ms left
-  closed_moved to ws rest ms left =
-      let n = moved (all_taken m key ws rest) key to ms left in
-      let s0 = fresh_section None key in
-      let after = moved (unparked m key ws rest token) key to ms left in
-      ap (λ (x : Machine). closed x key true) (stored_within n s0 token)
-      ∙ (closed_within n (record s0 { phase = phase.Stored; token = token }) true free (λ t e. absurd (none≢some e))
-      ∙ ap (λ (ps : List (Option Place)). record after { places = ps })
-      (told_all (moved_to to) (moved_to to) (told key token true) (told_moved key token to)
-      (all_changed (held key) m.places (threads_of ws)) (threads_of ms)
-      ∙ ap (λ (xs : List (Option Place)). all_changed (moved_to to) xs (threads_of ms)) (woken_places ws)))
+    -- so has one that also moved some
+    pub closed_moved : (to : ℕ) (ws rest ms left : List Waiter)
+        → closed (stored (moved (all_taken (opened m None key) key ws rest) key to ms left) key token) key true ≡ moved
+        (unparked m key ws rest token) key to ms left
+    closed_moved to ws rest ms left =
+        let n = moved (all_taken m key ws rest) key to ms left in
+        let s0 = fresh_section None key in
+        let after = moved (unparked m key ws rest token) key to ms left in
+        ap (λ (x : Machine). closed x key true) (stored_within n s0 token)
+        ∙ (closed_within n (record s0 { phase = phase.Stored; token = token }) true free (λ t e. absurd (none≢some e))
+        ∙ ap (λ (ps : List (Option Place)). record after { places = ps })
+        (told_all (moved_to to) (moved_to to) (told key token true) (told_moved key token to)
+        (all_changed (held key) m.places (threads_of ws)) (threads_of ms)
+        ∙ ap (λ (xs : List (Option Place)). all_changed (moved_to to) xs (threads_of ms)) (woken_places ws)))
 
 -- the first is taken
 pub first_taken : (m : Machine) (key : ℕ) → taken m key 0 ≡ all_taken m key (take 1 (m.queues key))

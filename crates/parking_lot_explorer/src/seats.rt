@@ -251,9 +251,7 @@ pub(crate) struct Wake {
 
 fn mark_of(place: Option<Place>) -> Option<u64> {
     match place {
-        Some(
-            Place::Waiting(_, sleep) | Place::Held(_, sleep) | Place::Taken(_, _, sleep, _),
-        ) => {
+        Some(Place::Waiting(_, sleep) | Place::Held(_, sleep) | Place::Taken(_, _, sleep, _)) => {
             Some(sleep.mark)
         }
         Some(Place::Running) | None => None,

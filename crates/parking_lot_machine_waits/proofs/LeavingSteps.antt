@@ -233,7 +233,6 @@ module _ (i j : Joint) (t : ℕ) (asked : Option ℕ) (e er ev : Bool)
       by_free false e less used = ap not e
       by_free true e less used = absurd (not_both (is_free j u) (free_still u ne less e) used)
 
-
   stay_closed : e ≡ false → is_open i ≡ false → is_open j ≡ false
   stay_closed out closed =
       let (locks, variables) = either_false _ _ closed in

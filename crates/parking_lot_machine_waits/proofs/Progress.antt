@@ -559,7 +559,7 @@ module _ (j : Joint) (h : IsWhole j) (fits : PartsFit j) (strict : Bool) where
                 t,
                 number_goes t b d low (givers_go t) (sym (ap (row_call_at s) at) ∙ here)
                     (sym (ap row_as at)
-                        ∙ row_free u can (not_strict (enters_at_lock j u) strict lax)),
+                    ∙ row_free u can (not_strict (enters_at_lock j u) strict lax)),
               )
 
       module _ (t : ℕ) (low : t < length j.seats) where

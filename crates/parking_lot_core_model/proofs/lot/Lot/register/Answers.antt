@@ -74,12 +74,11 @@ returns-then-thread-len-clause-ok g c =
     let ts = c.make_room.new.self.by_thread.items in
     let count = c.in_ok-make_room.ensures.count ∙ ap (λ k. max (length p.by_bucket) k) wanted in
     let fits : free_number p.places < length p.places = subst (λ (k : ℕ). k < length p.places) n (omega arith) in
-    let put_so = c.put.ensures ∙ ap (λ k. slice_set p.places k (Some Running)) n in
-    (
+    let put_so = c.put.ensures ∙ ap (λ k. slice_set p.places k (Some Running)) n in (
       n ∙ ap (λ v. free_number v.places) c.self.view_is,
       subst (λ (v : Parts). c.free_number-thread.result < v.max_threads) c.self.view_is (omega (arith, n, low)),
       ap (λ (ps : List (Option Place)). record m
-      { places = ps; buckets = length bs; sections = slot bs; inside = slot ts }) put_so
+          { places = ps; buckets = length bs; sections = slot bs; inside = slot ts }) put_so
           ∙ (registered_as p l.waiting l.waiting bs ts c.self.invariant free count c.make_room.ensures.sections
           c.make_room.ensures.keys (lists_of p.waiting) (slice_set p.places (free_number p.places) (Some Running)) refl
           (registered_within p.places fits) ∙ ap (λ v. registered (machine v)) c.self.view_is),
@@ -153,8 +152,7 @@ returns-clause-ok g c =
     let count = c.in_ok-make_room-2.ensures.count ∙ ap (λ k. max (length p.by_bucket) k) wanted in
     let full : length p.places ≤ free_number p.places = subst (λ (k : ℕ). length p.places ≤ k) n (omega arith) in
     let b = c.in_ok-reserve-2.ensures in
-    let pushed = c.push_reserved.ensures.items ∙ ap (λ ps. ps ++ Some Running ∷ []) c.reserve.ensures.items in
-    (
+    let pushed = c.push_reserved.ensures.items ∙ ap (λ ps. ps ++ Some Running ∷ []) c.reserve.ensures.items in (
       n ∙ ap (λ v. free_number v.places) c.self.view_is,
       subst (λ (v : Parts). c.free_number-thread.result < v.max_threads) c.self.view_is (omega (arith, n, low)),
       ap (λ (ps : List (Option Place)). record m {
