@@ -56,8 +56,10 @@ fn uses_guards<S: BuildHasher, Q: RawRwLock, A: Allocator + Clone>(
 where
     Q::Runtime: Wait,
 {
-    let is_away = map._get(&8, me).is_none() & map._get_mut(&7, me).is_some();
-    is_away & map._try_get(&7).is_present() & map._try_get_mut(&8).is_absent()
+    let mut right = map._get(&8, me).is_none();
+    right &= map._get_mut(&7, me).is_some();
+    right &= map._try_get(&7).is_present();
+    right & map._try_get_mut(&8).is_absent()
 }
 
 #[test]
