@@ -1,31 +1,12 @@
 //! Calls at a mutex, told what they see.
 
+use crate::acts::{change, took};
 use crate::script::follow_mutex;
 use parking_lot_core::DEFAULT_PARK_TOKEN;
 use parking_lot_protocol::{
-    Act, ActResult, CoreAnswer, HAND_OVER, MutexCore, SectionAct, TRY_AGAIN, WordChange,
+    Act, ActResult, CoreAnswer, HAND_OVER, MutexCore, SectionAct, TRY_AGAIN,
 };
 use std::process::Abort;
-
-/// One was taken with this token, and others are left or not.
-macro_rules! took {
-    ($token:expr, $left:expr) => {
-        ActResult::Took {
-            token: $token,
-            left: $left,
-        }
-    };
-}
-
-/// What a store does to the word.
-macro_rules! change {
-    ($keep:expr, $add:expr) => {
-        WordChange {
-            keep: $keep,
-            add: $add,
-        }
-    };
-}
 
 #[test]
 fn a_locker_sleeps_and_tries_again(rt: HostRuntime) {

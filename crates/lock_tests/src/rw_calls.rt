@@ -1,40 +1,9 @@
 //! Calls at a reader-writer lock, told what they see.
 
-use crate::script::follow_rw;
+use crate::acts::{change, store, took};
+use crate::script::{LAST_READER_WAKES, follow_rw};
 use parking_lot_core::ParkToken;
-use parking_lot_protocol::{
-    Act, ActResult, CoreAnswer, HAND_OVER, RwCore, SectionAct, TRY_AGAIN, WordChange,
-};
-
-/// One was taken with this token, and others are left or not.
-macro_rules! took {
-    ($token:expr, $left:expr) => {
-        ActResult::Took {
-            token: $token,
-            left: $left,
-        }
-    };
-}
-
-/// What a store does to the word.
-macro_rules! change {
-    ($keep:expr, $add:expr) => {
-        WordChange {
-            keep: $keep,
-            add: $add,
-        }
-    };
-}
-
-/// A store of either change.
-macro_rules! store {
-    ($plain:expr, $fair:expr) => {
-        SectionAct::Store {
-            plain: $plain,
-            fair: $fair,
-        }
-    };
-}
+use parking_lot_protocol::{Act, ActResult, CoreAnswer, HAND_OVER, RwCore, SectionAct, TRY_AGAIN};
 
 #[test]
 fn a_writer_waits_for_a_reader_and_is_woken(rt: HostRuntime) {
@@ -57,23 +26,7 @@ fn a_writer_waits_for_a_reader_and_is_woken(rt: HostRuntime) {
             ],
         );
     }
-    follow_rw(
-        &rt,
-        core,
-        &[
-            (ActResult::Word(24), Act::Exchange(24, 26)),
-            (ActResult::Exchanged, Act::Enter(1)),
-            (ActResult::Entered, Act::Section(SectionAct::Check)),
-            (
-                ActResult::Word(26),
-                Act::Section(SectionAct::Append(ParkToken(8))),
-            ),
-            (ActResult::Made, Act::Section(SectionAct::Leave)),
-            (ActResult::Made, Act::Sleep),
-            (ActResult::Woken(TRY_AGAIN), Act::Load),
-            (ActResult::Word(8), Act::Done(CoreAnswer::Owned)),
-        ],
-    );
+    follow_rw(&rt, core, LAST_READER_WAKES);
 }
 
 #[test]

@@ -1,13 +1,29 @@
 //! Calls at locks as data: what each is told stands beside the act that it must ask for then.
 
+use parking_lot_core::ParkToken;
 use parking_lot_protocol::timed::{TimedAct, TimedSeen};
-use parking_lot_protocol::{Act, ActResult, MutexCore, RwCore};
+use parking_lot_protocol::{Act, ActResult, CoreAnswer, MutexCore, RwCore, SectionAct, TRY_AGAIN};
 use parking_lot_protocol_rw::UpgradeCore;
 use parking_lot_protocol_rw::timed::TimedRwCore;
 use std::process::Abort;
 
 /// What a call is told, and what it must ask for then.
 pub type Line = (ActResult, Act);
+
+/// Of a call that asks for the whole lock beside one reader: it sleeps until that reader wakes it, and has the lock.
+pub const LAST_READER_WAKES: &[Line] = &[
+    (ActResult::Word(24), Act::Exchange(24, 26)),
+    (ActResult::Exchanged, Act::Enter(1)),
+    (ActResult::Entered, Act::Section(SectionAct::Check)),
+    (
+        ActResult::Word(26),
+        Act::Section(SectionAct::Append(ParkToken(8))),
+    ),
+    (ActResult::Made, Act::Section(SectionAct::Leave)),
+    (ActResult::Made, Act::Sleep),
+    (ActResult::Woken(TRY_AGAIN), Act::Load),
+    (ActResult::Word(8), Act::Done(CoreAnswer::Owned)),
+];
 
 /// Tells a call at a mutex each of these, and looks whether it asks for what it must.
 pub fn follow_mutex(rt: &impl Abort, mut core: MutexCore, lines: &[Line]) -> MutexCore {

@@ -1,41 +1,10 @@
 //! Calls of upgradable holds, told what they see.
 
-use crate::script::follow_upgrade as follow;
+use crate::acts::{change, store, took};
+use crate::script::{LAST_READER_WAKES, follow_upgrade as follow};
 use parking_lot_core::ParkToken;
-use parking_lot_protocol::{
-    Act, ActResult, CoreAnswer, HAND_OVER, SectionAct, TRY_AGAIN, WordChange,
-};
+use parking_lot_protocol::{Act, ActResult, CoreAnswer, HAND_OVER, SectionAct, TRY_AGAIN};
 use parking_lot_protocol_rw::UpgradeCore;
-
-/// One was taken with this token, and others are left or not.
-macro_rules! took {
-    ($token:expr, $left:expr) => {
-        ActResult::Took {
-            token: $token,
-            left: $left,
-        }
-    };
-}
-
-/// What a store does to the word.
-macro_rules! change {
-    ($keep:expr, $add:expr) => {
-        WordChange {
-            keep: $keep,
-            add: $add,
-        }
-    };
-}
-
-/// A store of either change.
-macro_rules! store {
-    ($plain:expr, $fair:expr) => {
-        SectionAct::Store {
-            plain: $plain,
-            fair: $fair,
-        }
-    };
-}
 
 /// Minus so much, modulo 2^64.
 fn less(by: u64) -> u64 {
@@ -159,23 +128,7 @@ fn an_upgrade_waits_for_the_readers(rt: HostRuntime) {
             ],
         );
     }
-    follow(
-        &rt,
-        core,
-        &[
-            (ActResult::Word(24), Act::Exchange(24, 26)),
-            (ActResult::Exchanged, Act::Enter(1)),
-            (ActResult::Entered, Act::Section(SectionAct::Check)),
-            (
-                ActResult::Word(26),
-                Act::Section(SectionAct::Append(ParkToken(8))),
-            ),
-            (ActResult::Made, Act::Section(SectionAct::Leave)),
-            (ActResult::Made, Act::Sleep),
-            (ActResult::Woken(TRY_AGAIN), Act::Load),
-            (ActResult::Word(8), Act::Done(CoreAnswer::Owned)),
-        ],
-    );
+    follow(&rt, core, LAST_READER_WAKES);
 }
 
 #[test]

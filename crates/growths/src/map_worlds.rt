@@ -210,6 +210,8 @@ const SET: &str = "0 value 0, 1 held, 1 done, blocks 0 1; 1=9 of 1";
 
 const NOT_INSERTED: &[&str] = &["0 no-memory, 1 none, 1 no-guard, blocks 1; of 0"];
 
+const BY_DEADLINE: &str = "thread a\n  insert-until 1 9\nthread b\n  get 1\n    drop\n";
+
 const ENTRY: &str = "thread a\n  entry 1\n    insert 9\n    drop\nthread b\n  get 1\n    drop\n";
 
 const TRY: &str = "thread a\n  try-entry 1\n    insert 9\n    drop\nthread b\n  get 1\n    drop\n";
@@ -249,6 +251,8 @@ const ITER_MUT: &str = "thread a\n  iter-mut add 1\n";
 
 const INSERTS: Played = Played(&[], INSERT, 5, INSERTED, NOT_INSERTED);
 
+const INSERTS_IN_TIME: Played = Played(&[], BY_DEADLINE, 5, INSERTED, NOT_INSERTED);
+
 const SETS: Played = Played(&[1], INSERT, 5, SET, &[]);
 
 const ENTERS: Played = Played(&[], ENTRY, 5, ENTERED, NOT_ENTERED);
@@ -264,6 +268,7 @@ const SHRINKS: Played = Played(MANY, SHRINK, 0, SHRUNK, NOT_SHRUNK);
 pub const LINES: &[Line<Played>] = &[
     ("Insert, beside a sleeper", INSERTS, ALONE),
     ("Insert, of a key that is there", SETS, "takes none"),
+    ("InsertUntil, beside a sleeper", INSERTS_IN_TIME, ALONE),
     ("Entry, beside a sleeper", ENTERS, ALONE),
     ("TryEntry, beside a sleeper", TRIES, ALONE),
     ("Iter, two visits", READS, EARLIER),
