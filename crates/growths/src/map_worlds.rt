@@ -13,7 +13,7 @@ const SHARDS: usize = 2;
 
 /// Keys at first, each with 0, and programs; and what is told behind them: where all is done, and where the first
 /// growth is refused, the second, .., and behind the last of these alike. The programs are drained once thread 0 has
-/// made so many steps, and then thread 1 as many as it can.
+/// made so many steps, and then thread 1 as many as it can, which sleeps then.
 #[derive(Clone, Copy)]
 pub struct Played(
     &'static [u64],
@@ -139,15 +139,17 @@ fn is_at_rest(world: &World<'_>) -> bool {
 fn play(heap: &Heap, world: &mut World<'_>, played: Played) -> Option<Seen> {
     let Played(_, _, steps, done, refused) = played;
     go(world, 0, steps);
+    let mut sleeps = true;
     if steps > 0 {
         go(world, 1, 100);
+        sleeps = world.status(1) == Status::Asleep;
     }
     let before = heap.asked();
-    let _steps = world.drain();
+    let drained = world.drain();
     let behind = heap.asked();
     let wanted = wanted(done, refused, refused_growth(heap, before));
     let is_right = is_told(*heap.inner(), world, wanted) && is_at_rest(world);
-    Seen::of(before, behind, is_right)
+    Seen::of(before, behind, is_right && sleeps && drained > 0)
 }
 
 impl<R: Drop> Case<R> for Played {

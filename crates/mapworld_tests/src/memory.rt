@@ -1,13 +1,11 @@
-//! Worlds whose memory ends: on heaps of all small sizes, and on heaps from which all that is left is taken at one
-//! step, or while they are drained; so each growth is refused once.
+//! Worlds whose memory ends: on heaps from which all that is left is taken at one step, or while they are drained; so
+//! each growth is refused once. The program `growths` refuses single growths.
 
-use super::judged::{at_first, broken, is_at_rest};
-use super::worlds::{
-    World, are_finished, programs_of, step_round, step_through, step_times, told, world_of,
-};
+use super::judged::{at_first, broken};
+use super::worlds::{World, are_finished, programs_of, step_through, step_times, world_of};
 use dashmap_table::SpreadState;
 use linked_list_allocator::LocalHeap;
-use mapworld::{Answer, Ask, Keyed, Status, Walk};
+use mapworld::{Answer, Ask, Keyed, Walk};
 use mapworld_oracle::replay::{Broken, Made};
 use mapworld_text::{Asked, Change};
 use std::alloc::{AllocError, Global};
@@ -39,100 +37,21 @@ fn hoard<'h>(
     Ok(pieces)
 }
 
-/// Steps thread 0 into its first call, where it holds its shard, and thread 1 until it can't go on; then both to their
-/// ends. Says whether thread 1 slept between, and both are finished.
-fn runs_to_the_end(world: &mut Small<'_>) -> bool {
-    // Start, load and exchange: the shard is thread 0's.
-    let is_begun = step_times(world, 0, 3) & step_through(world, 1);
-    let sleeps = world.status(1) == Status::Asleep;
-    is_begun & sleeps & step_through(world, 0) & step_round(world) & are_finished(world)
+/// Whether each call put a new pair in.
+fn are_added(world: &World) -> bool {
+    world
+        .replies()
+        .iter()
+        .all(|reply| matches!(reply.answer, Answer::None))
 }
 
-/// The value of a key, if it is there.
-fn value_of(world: &Small<'_>, key: u64) -> Option<u64> {
-    match world.pair(&key) {
-        Some((_, value)) => Some(*value),
-        None => None,
+/// How many pairs there are.
+fn count_of(world: &World) -> usize {
+    let mut count = 0usize;
+    for _pair in world.pairs() {
+        count = count.wrapping_add(1);
     }
-}
-
-/// Programs of two threads, and what their calls are answered where the first one's growth is refused, and where it
-/// isn't.
-#[derive(Clone, Copy)]
-struct Refused {
-    programs: &'static str,
-    refused: &'static str,
-    done: &'static str,
-}
-
-/// Runs worlds on heaps of each small size. Each that is made goes one of both ways, and each way is gone.
-fn try_sizes(rt: &(impl AllocGlobal + Abort), row: Refused) -> Result<(), Fail> {
-    let programs = programs_of(rt.alloc(), row.programs)?;
-    let mut has_refused = false;
-    let mut has_done = false;
-    for size in 0..300 {
-        let heap = LocalHeap::new(rt.alloc(), size * 16)?;
-        let Some(mut world) = world_of(&heap, 2, SpreadState, &[], &programs) else {
-            continue;
-        };
-        let is_run = runs_to_the_end(&mut world);
-        let text = told(rt.alloc(), &world)?;
-        let value = value_of(&world, 1);
-        let is_refused = text.as_str() == row.refused && value.is_none();
-        let is_done = text.as_str() == row.done && value == Some(10);
-        assert!(rt; is_run && (is_refused || is_done), "of size {size}: {text}");
-        has_refused |= is_refused;
-        has_done |= is_done;
-    }
-    assert!(rt; has_refused && has_done);
-    Ok(())
-}
-
-#[test]
-fn a_refused_growth_changes_nothing_and_leaves_neither_hold_nor_guard(
-    rt: HostRuntime,
-) -> Result<(), Fail> {
-    try_sizes(
-        &rt,
-        Refused {
-            programs: "thread a\n  insert 1 10\nthread b\n  get 1\n    drop\n",
-            refused: "no-memory, blocks 0; none, no-guard, blocks 1; ",
-            done: "none, blocks 1; held, done, blocks 1; ",
-        },
-    )?;
-    try_sizes(
-        &rt,
-        Refused {
-            programs: "thread a\n  entry 1\n    insert 10\n    drop\nthread b\n  get 1\n    drop\n",
-            refused: "no-memory, no-guard, no-guard, blocks 0; none, no-guard, blocks 1; ",
-            done: "vacant, held, done, blocks 1; held, done, blocks 1; ",
-        },
-    )
-}
-
-#[test]
-fn an_insert_on_a_present_key_needs_no_memory(rt: HostRuntime) -> Result<(), Fail> {
-    let programs = programs_of(rt.alloc(), "thread a\n  insert 1 6\n")?;
-    let mut has_done = false;
-    for size in 0..300 {
-        let heap = LocalHeap::new(rt.alloc(), size * 16)?;
-        let Some(mut world) = world_of(&heap, 2, SpreadState, &[(1, 5)], &programs) else {
-            continue;
-        };
-        let pieces = hoard(rt.alloc(), &heap)?;
-        let is_done = step_round(&mut world);
-        drop(pieces);
-        let text = told(rt.alloc(), &world)?;
-        let is_told = text.as_str() == "value 5, blocks 1; " && value_of(&world, 1) == Some(6);
-        // Start, load, exchange, look for readers, find, deed, release, answer: no step is a growth.
-        assert!(rt;
-            is_done && is_told && world.steps() == 8,
-            "of size {size}: {text}"
-        );
-        has_done = true;
-    }
-    assert!(rt; has_done);
-    Ok(())
+    count
 }
 
 #[test]
@@ -146,13 +65,8 @@ fn a_shard_grows_to_thousands_of_pairs(rt: HostRuntime) -> Result<(), Fail> {
     programs.push(program)?;
     let made = world_of(rt.alloc(), 2, SpreadState, &[], &programs);
     let mut world: World = made.ok_or("no world")?;
-    let is_done = step_through(&mut world, 0);
-    let are_added = world
-        .replies()
-        .iter()
-        .all(|reply| matches!(reply.answer, Answer::None));
-    let count = world.contents()?.len();
-    assert!(rt; is_done && are_finished(&world) && are_added && count == 3000);
+    assert!(rt; step_through(&mut world, 0) && are_finished(&world));
+    assert!(rt; are_added(&world) && count_of(&world) == 3000);
     assert!(rt; world.pair(&5998) == Some((&5998, &2999)));
     Ok(())
 }
@@ -243,14 +157,14 @@ fn run_without(
 /// Whether a call was refused, and the rule that is broken, if one is.
 type Outcome = (bool, Broken);
 
-/// Makes a world and runs it without memory at that time.
-fn outcome_without(made: Made<'_, Change>, when: When) -> Result<Outcome, Fail> {
-    let heap = LocalHeap::new(made.alloc, SIZE)?;
-    let made_world = world_of(&heap, made.shards, SpreadState, made.pairs, made.programs);
-    let Some(mut world) = made_world else {
-        return Ok((false, Some("a world is made")));
-    };
-    if !run_without(made.alloc, &heap, &mut world, when)? {
+/// Runs a world without memory at that time.
+fn outcome_of(
+    made: Made<'_, Change>,
+    heap: &LocalHeap,
+    world: &mut Small<'_>,
+    when: When,
+) -> Result<Outcome, Fail> {
+    if !run_without(made.alloc, heap, world, when)? {
         return Ok((false, Some("a step of a thread that can move is made")));
     }
     let replies = world.replies().iter();
@@ -258,8 +172,17 @@ fn outcome_without(made: Made<'_, Change>, when: When) -> Result<Outcome, Fail> 
         .filter(|reply| matches!(reply.answer, Answer::NoMemory))
         .count();
     let first = at_first(made.alloc, made.pairs)?;
-    let broken = broken(made, &world, KEYS, &first)?;
+    let broken = broken(made, world, KEYS, &first)?;
     Ok((refused > 0, broken))
+}
+
+/// Makes a world and runs it without memory at that time.
+fn outcome_without(made: Made<'_, Change>, when: When) -> Result<Outcome, Fail> {
+    let heap = LocalHeap::new(made.alloc, SIZE)?;
+    match world_of(&heap, made.shards, SpreadState, made.pairs, made.programs) {
+        Some(mut world) => outcome_of(made, &heap, &mut world, when),
+        None => Ok((false, Some("a world is made"))),
+    }
 }
 
 /// Whether calls of programs are refused for want of memory.
@@ -380,60 +303,4 @@ fn calls_that_need_no_memory_are_never_refused(rt: HostRuntime) -> Result<(), Fa
             refusals: Refusals::Never,
         },
     )
-}
-
-/// A world of an insertion of a new key beside a thread that waits for its shard, behind the step before the growth.
-fn before_growth<'h>(heap: &'h LocalHeap, programs: &[Vec<Asked>]) -> Option<Small<'h>> {
-    let mut world = world_of(heap, 2, SpreadState, &[], programs)?;
-    // Start, load, exchange, look for readers, find; and the other waits.
-    let done = step_times(&mut world, 0, 5) & step_through(&mut world, 1);
-    if done && world.status(1) == Status::Asleep {
-        Some(world)
-    } else {
-        None
-    }
-}
-
-#[test]
-fn a_drain_goes_on_behind_a_refused_growth(rt: HostRuntime) -> Result<(), Fail> {
-    let programs = programs_of(rt.alloc(), GROWTHS[0])?;
-    let heap = LocalHeap::new(rt.alloc(), SIZE)?;
-    let mut world = before_growth(&heap, &programs).ok_or("no world")?;
-    let pieces = hoard(rt.alloc(), &heap)?;
-    let steps = world.drain();
-    drop(pieces);
-    let text = told(rt.alloc(), &world)?;
-    assert!(rt; steps > 0 && text.as_str() == "no-memory, blocks 0; none, no-guard, blocks 1; ");
-    assert!(rt; world.pair(&1).is_none() && is_at_rest(&world, 3, 2));
-    let heap = LocalHeap::new(rt.alloc(), SIZE)?;
-    let mut world = before_growth(&heap, &programs).ok_or("no world")?;
-    let is_done = step_round(&mut world);
-    let text = told(rt.alloc(), &world)?;
-    assert!(rt; is_done && text.as_str() == "none, blocks 1; held, done, blocks 1; ");
-    Ok(())
-}
-
-/// Whether a walk that changes a pair on each shard is refused at its second visit, where that step has no memory.
-fn is_refused_at_second(alloc: Global, programs: &[Vec<Asked>], number: u64) -> Result<bool, Fail> {
-    let heap = LocalHeap::new(alloc, SIZE)?;
-    let made = world_of(&heap, 2, SpreadState, &[(1, 0), (2, 0)], programs);
-    let mut world = made.ok_or("no world")?;
-    let is_run = run_without(alloc, &heap, &mut world, When::Step(number))?;
-    let text = told(alloc, &world)?;
-    let has_first = value_of(&world, 1) == Some(0) && value_of(&world, 2) == Some(1);
-    let is_told = text.as_str() == "no-memory, blocks 1; ";
-    Ok(is_run && is_told && has_first && is_at_rest(&world, 1, 2))
-}
-
-#[test]
-fn each_visit_takes_room_for_what_it_reads(rt: HostRuntime) -> Result<(), Fail> {
-    let programs = programs_of(rt.alloc(), "thread a\n  iter-mut add 1\n")?;
-    let mut times: u64 = 0;
-    for number in 0..20 {
-        if is_refused_at_second(rt.alloc(), &programs, number)? {
-            times = times.saturating_add(1);
-        }
-    }
-    assert!(rt; times == 1, "at {times} steps");
-    Ok(())
 }
