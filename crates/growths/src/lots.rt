@@ -46,9 +46,13 @@ fn has(lot: &Lot<&Heap>, thread: usize, resources: usize) -> bool {
 fn make(lot: &mut Lot<&Heap>, call: Call) -> Said {
     match call {
         Call::Register(threads) => {
+            let buckets = lot.buckets();
             let said = lot.register();
-            let is_short = said == Err(LotFault::NoMemory) && lot.status(threads).is_none();
-            Said::of(said == Ok(threads), is_short)
+            let is_free = lot.status(threads).is_none() && lot.buckets() == buckets;
+            Said::of(
+                said == Ok(threads),
+                said == Err(LotFault::NoMemory) && is_free,
+            )
         }
         Call::Resources => listed(lot.resources(0), 1, LotFault::NoMemory),
         Call::Queue => listed(lot.queue(5), 1, LotFault::NoMemory),
@@ -168,6 +172,12 @@ impl<R: Wait + Copy + Drop> Case<R> for SharedCall {
     }
 }
 
+const NEW: &str = "nothing is made";
+
+const GROWN: &str = "its number is free, and the next call has it; buckets, queues, resources";
+
+const SIXTH: SharedCall = SharedCall::ThreadData(5);
+
 const NUMBER: &str = "its number is free, and the next call has it; queues, resources";
 
 const OTHERS: &str = "resources, queues";
@@ -175,9 +185,10 @@ const OTHERS: &str = "resources, queues";
 const TABLE: &str = "no key of the lot is claimed";
 
 pub const LINES: &[Line<Call>] = &[
-    ("new", Call::New, "takes none"),
+    ("new", Call::New, NEW),
     ("register, the first", Call::Register(0), NUMBER),
     ("register, the second", Call::Register(1), NUMBER),
+    ("register, the 6th: buckets grow", Call::Register(5), GROWN),
     ("register, the 17th", Call::Register(16), NUMBER),
     ("acquire_resource", Call::AcquireResource, OTHERS),
     ("resources", Call::Resources, OTHERS),
@@ -185,8 +196,9 @@ pub const LINES: &[Line<Call>] = &[
 ];
 
 pub const SHARED: &[Line<SharedCall>] = &[
-    ("ParkingLot::new", SharedCall::New, "takes none"),
+    ("ParkingLot::new", SharedCall::New, NEW),
     ("thread_data, the first", SharedCall::ThreadData(0), NUMBER),
+    ("thread_data, the 6th: buckets grow", SIXTH, NUMBER),
     ("thread_data, the 17th", SharedCall::ThreadData(16), NUMBER),
     (
         "deadlock::acquire_resource",

@@ -83,44 +83,26 @@ fn map_of<'h, Q: RawRwLock + MakeLock<T> + Drop, T: Copy + Drop>(
     }
 }
 
-/// What was seen of a constructor. The rows that it took stay used, of a refused one too.
-fn seen<R>(heap: &Heap, table: &Table<'_, R>, before: u64, said: Said) -> Option<Seen> {
-    said.seen(heap, before, are_taken(table, TAKEN))
-}
-
-/// Makes a map with its own hasher.
-fn make_new_map<R: RandomSource>(heap: &Heap, table: &Table<'_, R>, make: Make) -> Option<Seen> {
-    let before = heap.asked();
-    let map: Result<Map<'_, RandomState, Row<'_, '_, R>>, NewFault> = new_map(heap, table, make);
-    seen(
-        heap,
-        table,
-        before,
-        made(map, NewFault::Map(MapFault::NoMemory)),
-    )
-}
-
-/// Makes a map of pairs.
-fn make_map_of<R>(heap: &Heap, table: &Table<'_, R>, make: Make) -> Option<Seen> {
+/// Makes a map. The rows that it took stay used, of a refused one too.
+pub fn make_map<R: RandomSource>(heap: &Heap, table: &Table<'_, R>, make: Make) -> Option<Seen> {
     let pairs = pairs(heap)?;
     let before = heap.asked();
-    let map: Made<Map<'_, SpreadState, Row<'_, '_, R>>> = map_of(heap, table, make, pairs);
-    seen(heap, table, before, made(map, MapFault::NoMemory))
-}
-
-/// Makes a map.
-pub fn make_map<R: RandomSource>(heap: &Heap, table: &Table<'_, R>, make: Make) -> Option<Seen> {
-    match make {
+    let said = match make {
         Make::New | Make::WithCapacity | Make::WithShards | Make::WithBoth => {
-            make_new_map(heap, table, make)
+            let map: Result<Map<'_, RandomState, Row<'_, '_, R>>, NewFault> = new_map(
+                heap, table, make,
+            );
+            made(map, NewFault::Map(MapFault::NoMemory))
         }
-        Make::Iter | Make::ParIter => make_map_of(heap, table, make),
         _ => {
-            let before = heap.asked();
-            let map: Made<Map<'_, SpreadState, Row<'_, '_, R>>> = map_by(heap, table, make);
-            seen(heap, table, before, made(map, MapFault::NoMemory))
+            let map: Made<Map<'_, SpreadState, Row<'_, '_, R>>> = match make {
+                Make::Iter | Make::ParIter => map_of(heap, table, make, pairs),
+                _ => map_by(heap, table, make),
+            };
+            made(map, MapFault::NoMemory)
         }
-    }
+    };
+    said.seen(heap, before, are_taken(table, TAKEN))
 }
 
 fn new_set<'h, Q: RawRwLock + MakeLock<T> + Drop, T: Copy + Drop>(
@@ -161,37 +143,26 @@ fn set_of<'h, Q: RawRwLock + MakeLock<T> + Drop, T: Copy + Drop>(
     }
 }
 
-/// Makes a set with its own hasher.
-fn make_new_set<R: RandomSource>(heap: &Heap, table: &Table<'_, R>, make: Make) -> Option<Seen> {
-    let before = heap.asked();
-    let set: Result<Set<'_, RandomState, Row<'_, '_, R>>, NewFault> = new_set(heap, table, make);
-    seen(
-        heap,
-        table,
-        before,
-        made(set, NewFault::Map(MapFault::NoMemory)),
-    )
-}
-
-/// Makes a set of keys.
-fn make_set_of<R>(heap: &Heap, table: &Table<'_, R>, make: Make) -> Option<Seen> {
+/// Makes a set, as a map is made.
+pub fn make_set<R: RandomSource>(heap: &Heap, table: &Table<'_, R>, make: Make) -> Option<Seen> {
     let keys = keys(heap)?;
     let before = heap.asked();
-    let set: Made<Set<'_, SpreadState, Row<'_, '_, R>>> = set_of(heap, table, make, keys);
-    seen(heap, table, before, made(set, MapFault::NoMemory))
-}
-
-/// Makes a set.
-pub fn make_set<R: RandomSource>(heap: &Heap, table: &Table<'_, R>, make: Make) -> Option<Seen> {
-    match make {
-        Make::New | Make::WithCapacity => make_new_set(heap, table, make),
-        Make::Iter | Make::ParIter => make_set_of(heap, table, make),
-        _ => {
-            let before = heap.asked();
-            let set: Made<Set<'_, SpreadState, Row<'_, '_, R>>> = set_by(heap, table, make);
-            seen(heap, table, before, made(set, MapFault::NoMemory))
+    let said = match make {
+        Make::New | Make::WithCapacity => {
+            let set: Result<Set<'_, RandomState, Row<'_, '_, R>>, NewFault> = new_set(
+                heap, table, make,
+            );
+            made(set, NewFault::Map(MapFault::NoMemory))
         }
-    }
+        _ => {
+            let set: Made<Set<'_, SpreadState, Row<'_, '_, R>>> = match make {
+                Make::Iter | Make::ParIter => set_of(heap, table, make, keys),
+                _ => set_by(heap, table, make),
+            };
+            made(set, MapFault::NoMemory)
+        }
+    };
+    said.seen(heap, before, are_taken(table, TAKEN))
 }
 
 const ROWS: &str = "nothing is made; its rows of the table stay used";

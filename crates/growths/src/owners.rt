@@ -7,7 +7,6 @@ use crate::rows::{
     map_of, pairs, put,
 };
 use dashmap_calls::{Answer, Call, Keyed, make};
-use dashmap_map::mapref::entry::Entry;
 use dashmap_map::{DashMap, UntilFault};
 use dashmap_parallel::{ParExtendFault, ParallelMap, par_extend_shared};
 use dashmap_plain::clones::CloneMap;
@@ -178,73 +177,51 @@ fn insert_until<R: Wait + Clock>(
     }
 }
 
-/// Makes the call on an empty map that is lent, behind the insertions that it needs. What stands is looked at where no
-/// shard is held, since who asks for one that is waits.
-fn ask_on<'h, 't, 'l, R: Wait + Threads + Clock + Sync + Send>(
-    heap: &'h Heap,
-    table: &'t Table<'l, R>,
-    map: &mut Map<'h, Row<'t, 'l, R>>,
-    team: &mut Team,
-    call: Owned,
-) -> Option<Seen> {
-    let rt = table.lot().runtime();
-    let now = Instant::now(rt).ok()?;
-    let is_empty = matches!(call, Owned::InsertMut | Owned::InsertUntil);
-    put(map, if is_empty { 0 } else { 2 }, &mut team.me);
-    let before = heap.asked();
-    let (before, came) = match call {
-        Owned::Extend | Owned::ParExtend | Owned::ParExtendShared => {
-            extend(heap, rt, map, &mut team.others, call)?
-        }
-        Owned::InsertUntil => (before, insert_until(rt, map, &mut team.me, now)),
-        Owned::MapCollect => (
-            before,
-            Came::Other(collect(heap, rt, map, &mut team.others)),
-        ),
-        _ => (before, make_call(heap, table, map, &mut team.me, call)),
-    };
-    let behind = heap.asked();
-    let rows = if let Owned::Clone = call { 4 } else { 2 };
-    let stands = are_taken(table, rows) && compared(map, came, &mut team.me).fits(heap);
-    Seen::of(before, behind, stands)
-}
-
-/// Makes the call on a new map.
+/// Makes the call on an empty map, behind the insertions that it needs. What stands is looked at where no shard is
+/// held, since who asks for one that is waits.
 pub fn ask_owner<R: Wait + Threads + Clock + Sync + Send>(
     heap: &Heap,
     table: &Table<'_, R>,
     team: &mut Team,
     call: Owned,
 ) -> Option<Seen> {
+    let rt = table.lot().runtime();
+    let now = Instant::now(rt).ok()?;
     let mut map: Map<'_, Row<'_, '_, R>> = map_of(heap, table).ok()?;
-    ask_on(heap, table, &mut map, team, call)
+    let is_empty = matches!(call, Owned::InsertMut | Owned::InsertUntil);
+    put(&map, if is_empty { 0 } else { 2 }, &mut team.me);
+    let before = heap.asked();
+    let (before, came) = match call {
+        Owned::Extend | Owned::ParExtend | Owned::ParExtendShared => {
+            extend(heap, rt, &mut map, &mut team.others, call)?
+        }
+        Owned::InsertUntil => (before, insert_until(rt, &map, &mut team.me, now)),
+        Owned::MapCollect => (
+            before,
+            Came::Other(collect(heap, rt, &map, &mut team.others)),
+        ),
+        _ => (before, make_call(heap, table, &mut map, &mut team.me, call)),
+    };
+    let behind = heap.asked();
+    let rows = if let Owned::Clone = call { 4 } else { 2 };
+    let stands = are_taken(table, rows) && compared(&map, came, &mut team.me).fits(heap);
+    Seen::of(before, behind, stands)
 }
 
 type Entries<'h, Q> = DashMap<Costly<'h>, u64, SpreadState, Q, &'h Heap>;
 
-/// What came of an insertion of 7 at a place. A refused entry still has its key, of this number, and the value comes
-/// back.
-fn inserted_at<'h, Q: RawRwLock>(
-    entry: Entry<'_, '_, Costly<'h>, u64, Q, &'h Heap>,
-    number: u64,
-) -> Said
-where
-    Q::Runtime: Wait,
-{
-    match entry.insert_entry(7) {
-        Ok(entry) => Said::of(*entry.get() == 7, false),
-        Err(back) => Said::of(false, back.1 == 7 && back.0.key().number() == number),
-    }
-}
-
-/// What came of an insertion of 7 at the place of a new key that stays there: it clones the key.
+/// What came of an insertion of 7 at the place of a new key that stays there: it clones the key. A refused entry
+/// still has its key, and the value comes back.
 fn enter<'h, Q: RawRwLock>(map: &Entries<'h, Q>, key: Costly<'h>, me: &mut Q::Party) -> Said
 where
     Q::Runtime: Wait,
 {
     let number = key.number();
     match map.entry(key, me) {
-        Ok(entry) => inserted_at(entry, number),
+        Ok(entry) => match entry.insert_entry(7) {
+            Ok(entry) => Said::of(*entry.get() == 7, false),
+            Err(back) => Said::of(false, back.1 == 7 && back.0.key().number() == number),
+        },
         Err(_key) => Said::Other,
     }
 }

@@ -148,8 +148,8 @@ impl<K: Eq + Hash, V, S: BuildHasher, D: Deed<K, V>, A: Allocator> MapWorld<K, V
     /// Where a thread stands: `Finished` where all its calls are answered, `Asleep` where it waits in a queue of its
     /// shard, or was taken from it and isn't woken yet, and otherwise `Running`. A thread that is asleep is `Running`
     /// again once another thread has woken it, or its deadline has come. One that is `Running` may still be before a
-    /// queue's section that another thread has entered; whether it can go on says [`can_move`](MapWorld::can_move). It
-    /// takes no memory and cannot fail.
+    /// queue's section whose bucket another thread has entered; whether it can go on says
+    /// [`can_move`](MapWorld::can_move). It takes no memory and cannot fail.
     ///
     /// Threads are numbered from 0, one for each program. A thread that the world doesn't have is `Finished`.
     pub fn status(&self, thread: usize) -> Status
@@ -174,9 +174,10 @@ impl<K: Eq + Hash, V, S: BuildHasher, D: Deed<K, V>, A: Allocator> MapWorld<K, V
         }
     }
 
-    /// Whether a step of the thread's own would be done: it is `Running`, and isn't before a queue's section that
-    /// another thread has entered. All queues of the shards' locks are in one bucket, and only one thread at a time is
-    /// in the section of a bucket. A thread that the world doesn't have can't move.
+    /// Whether a step of the thread's own would be done: it is `Running`, and isn't before a queue's section whose
+    /// bucket another thread has entered. Shard i has the queues 2i and 2i + 1, a queue's bucket is its number modulo
+    /// the number of buckets, and only one thread at a time is in a section of a bucket. A thread that the world
+    /// doesn't have can't move.
     ///
     /// It says nothing of the thread's deadline, and doesn't say that step numbers are left, which
     /// [`run`](MapWorld::run) tests too. It takes no memory and cannot fail.
@@ -384,7 +385,7 @@ where
     /// in this order:
     ///
     /// - `NoSuchThread`: the world doesn't have the thread;
-    /// - `CannotMove`: the thread is asleep or finished, or before a queue's section that another thread has entered;
+    /// - `CannotMove`: the thread is asleep or finished, or before a section whose bucket another thread has entered;
     ///   or, where the step is a deadline, it isn't asleep, or its call has none;
     /// - `StepsShort`: no step numbers are left for the step and all that must come after it.
     ///

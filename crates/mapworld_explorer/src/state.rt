@@ -124,8 +124,10 @@ fn write_sleep(world: &World, thread: usize, out: &mut String) -> Written {
     match world.locks().machine().lot().place(thread) {
         None | Some(Place::Running) => Ok(()),
         Some(Place::Waiting(key, _)) => write!(out, " w{key}"),
-        Some(Place::Held(_)) => out.push_str(" h"),
-        Some(Place::Taken(token, _, is_woken)) => write!(out, " t{} {is_woken}", token.0),
+        Some(Place::Held(key, _)) => write!(out, " h{key}"),
+        Some(Place::Taken(token, key, _, is_woken)) => {
+            write!(out, " t{} {key} {is_woken}", token.0)
+        }
     }
 }
 
@@ -133,8 +135,8 @@ fn write_sleep(world: &World, thread: usize, out: &mut String) -> Written {
 fn mark_of(world: &World, thread: usize) -> Option<u64> {
     match world.locks().machine().lot().place(thread) {
         Some(Place::Waiting(_, sleep)) => Some(sleep.mark),
-        Some(Place::Held(sleep)) => Some(sleep.mark),
-        Some(Place::Taken(_, sleep, _)) => Some(sleep.mark),
+        Some(Place::Held(_, sleep)) => Some(sleep.mark),
+        Some(Place::Taken(_, _, sleep, _)) => Some(sleep.mark),
         Some(Place::Running) | None => None,
     }
 }
@@ -148,7 +150,7 @@ fn write_wakes(world: &World, out: &mut String) -> Written {
     Ok(())
 }
 
-/// The words and queues of the locks, and the section that is open.
+/// The words and queues of the locks.
 fn write_locks(world: &World, out: &mut String) -> Result<(), AllocError> {
     for shard in 0..world.shards() {
         write!(out, "\n{}:", world.word(shard))?;

@@ -11,6 +11,8 @@ mod rules;
 #[cfg(test)]
 mod schedules;
 #[cfg(test)]
+mod sections;
+#[cfg(test)]
 mod shard_locks;
 #[cfg(test)]
 mod worlds;

@@ -406,13 +406,13 @@ fn the_tests_know_the_shards(rt: HostRuntime) -> Result<(), Fail> {
 #[test]
 fn programs_of_two_calls(rt: HostRuntime) -> Result<(), Fail> {
     explore(&rt, ONE, TWO_LOOKS, TWO_OTHERS, 4_200)?;
-    explore(&rt, ONE, REPLACES, PUTS_BACK, 1_800)
+    explore(&rt, ONE, REPLACES, PUTS_BACK, 3_600)
 }
 
 #[test]
 fn programs_of_two_calls_on_two_shards(rt: HostRuntime) -> Result<(), Fail> {
     explore(&rt, BOTH, INSERT_AND_VIEW, PUTS_BACK_BESIDE, 270)?;
-    explore(&rt, BOTH, FIRST_THEN_SECOND, SECOND_THEN_FIRST, 1_000)
+    explore(&rt, BOTH, FIRST_THEN_SECOND, SECOND_THEN_FIRST, 1_600)
 }
 
 #[test]
@@ -448,7 +448,7 @@ fn entries_beside_guards(rt: HostRuntime) -> Result<(), Fail> {
 #[test]
 fn tries_beside_calls_on_keys_and_tries(rt: HostRuntime) -> Result<(), Fail> {
     explore(&rt, ONE, TRIES, KEYED, 2_400)?;
-    explore(&rt, ONE, TRIES, TRIES, 700)
+    explore(&rt, ONE, TRIES, TRIES, 1_000)
 }
 
 #[test]
@@ -536,8 +536,8 @@ fn walks_that_count_beside_walks(rt: HostRuntime) -> Result<(), Fail> {
 #[test]
 fn calls_on_two_shards(rt: HostRuntime) -> Result<(), Fail> {
     explore(&rt, BOTH, KEYED, ON_SHARD_0, 1_800)?;
-    explore(&rt, BOTH, GUARDED, ON_SHARD_0, 2_800)?;
-    explore(&rt, BOTH, TRIES, ON_SHARD_0, 1_200)
+    explore(&rt, BOTH, GUARDED, ON_SHARD_0, 4_200)?;
+    explore(&rt, BOTH, TRIES, ON_SHARD_0, 1_800)
 }
 
 #[test]
@@ -558,5 +558,5 @@ fn walks_over_two_shards_that_stop(rt: HostRuntime) -> Result<(), Fail> {
 #[test]
 fn two_walks_over_two_shards(rt: HostRuntime) -> Result<(), Fail> {
     explore(&rt, BOTH, READS_AND_ADDS, READS_AND_KEEPS, 3_600)?;
-    explore(&rt, BOTH, ADDS, COUNTS, 1_000)
+    explore(&rt, BOTH, ADDS, COUNTS, 1_500)
 }

@@ -1,6 +1,6 @@
 -- What calls on the lot for threads say, where the lock alone knows the lot.
 use Rattle.std.specs.Prelude.{◌≡◌, ◌⊎◌, ℕ, nat_lt, Bool, true, false, if◌then◌else◌, MatchBool, List, [], length}
-use Rattle.std.specs.Prelude.{Option, Some, Result, Ok}
+use Rattle.std.specs.Prelude.{Option, Some, None, Result, Ok}
 use Rattle.std.specs.Option.{option_map_or}
 use Rattle.parking_lot_core_model.specs.declared.fault.LotFault.{LotFault}
 use Rattle.parking_lot_core_model.specs.declared.fault.LotFault.TheVariants.{TooManyThreads, NoMemory}
@@ -23,18 +23,26 @@ use Rattle.parking_lot_core_model.specs.Sound.{Sound}
 unfoldable pub WasHeld : Machine → Machine → Type 0
 WasHeld old new = Unit {0}
 
--- On some sound lot this is what a call did that answered so, and all that was done while its lock was held: so the lists
--- of other keys are as they were.
+-- no section is open
+abbrev pub AreClosed : Machine → Type 0
+AreClosed m = (bucket : ℕ) → m.sections bucket ≡ None
+
+-- what a lot is whenever its lock is had: sound, and nobody is in a section
+abbrev pub IsQuiet : Machine → Type 0
+IsQuiet m = Sound m × AreClosed m
+
+-- On some sound lot of which no section was open this is what a call did that answered so, and all that was done while its
+-- lock was held: so the lists of other keys are as they were.
 abbrev pub OnSomeLot : {T : Type 0} → (Machine → Result T LotFault → Machine → Type 0) → T → Type 0
-OnSomeLot does answer = (old : Machine) × (new : Machine) × Sound old × does old (Ok answer) new × WasHeld old new
+OnSomeLot does answer = (old : Machine) × (new : Machine) × IsQuiet old × does old (Ok answer) new × WasHeld old new
 
 -- why nobody can register where there are to be so many threads at most
 abbrev pub admit_fault : ℕ → Machine → Option LotFault
 admit_fault limit m = if nat_lt (free_number m.places) limit then register_fault m else Some TooManyThreads
 
--- on some sound lot nobody could register for this, or memory was refused
+-- on some sound lot of which no section was open nobody could register for this, or memory was refused
 abbrev pub IsRefused : ℕ → LotFault → Type 0
-IsRefused limit fault = (m : Machine) × Sound m × ((admit_fault limit m ≡ Some fault) ⊎ (fault ≡ NoMemory))
+IsRefused limit fault = (m : Machine) × IsQuiet m × ((admit_fault limit m ≡ Some fault) ⊎ (fault ≡ NoMemory))
 
 -- the thread stands in a list
 abbrev pub waits_in : Machine → ℕ → Bool
@@ -44,8 +52,8 @@ waits_in m thread = option_map_or is_waiting (place_at m.places thread) false
 abbrev pub is_taken : Place → Bool
 is_taken Running = false
 is_taken (Waiting key sleep) = false
-is_taken (Held sleep) = false
-is_taken (Taken token sleep woken) = true
+is_taken (Held key sleep) = false
+is_taken (Taken token key sleep woken) = true
 
 abbrev pub taken_in : Machine → ℕ → Bool
 taken_in m thread = option_map_or is_taken (place_at m.places thread) false

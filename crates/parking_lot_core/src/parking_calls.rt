@@ -5,7 +5,7 @@ ghost use Rattle.parking_lot_core_model.specs.declared.parking.ParkResult.TheVar
 ghost use Rattle.parking_lot_core_model.specs.declared.parking.UnparkToken.{UnparkToken};
 ghost use Rattle.parking_lot_core_model.specs.Operations.{Parks, Resumes, UnparksOne, UnparksAll, UnparksAndRequeues};
 ghost use Rattle.parking_lot_core_model.specs.Operations.{UnparksByFilter};
-ghost use Rattle.parking_lot_core_model.specs.Machine.{busy, enter_fault, resume_fault, Does};
+ghost use Rattle.parking_lot_core_model.specs.Machine.{busy, either_busy, enter_fault, resume_fault, Does};
 ghost use Rattle.parking_lot_core.specs.Shared.{OnSomeLot, Counts, Tells};
 
 use crate::parking_lot::ParkingLot;
@@ -55,7 +55,7 @@ where
     requires thread { thread_data.old.thread < lot.now.max_threads }
     ensures valid { (valid : Bool) × V.post validate valid × MatchBool valid (result ≢ Invalid) (result ≡ Invalid) }
     ensures joined { (valid : Bool) × MatchBool valid (result ≢ Invalid) (result ≡ Invalid)
-        × OnSomeLot (Does (λ m. enter_fault m thread_data.old.thread)
+        × OnSomeLot (Does (λ m. enter_fault m thread_data.old.thread key)
         (Parks (V.post validate) thread_data.old.thread key park_token (is_some timeout.entry)))
         (if valid then None else Some Invalid) }
     ensures before { result ≢ Invalid → B.post before_sleep tt }
@@ -97,8 +97,8 @@ fn begin<R: Wait, A: Allocator, V: FnOnce() -> bool + Drop>(
 ) -> bool
     requires { V.IsAlwaysCallable validate }
     ensures asked { V.post validate result }
-    ensures joined { OnSomeLot (Does (λ m. enter_fault m thread) (Parks (V.post validate) thread key park_token timed))
-        (if result then None else Some Invalid) }
+    ensures joined { OnSomeLot (Does (λ m. enter_fault m thread key)
+        (Parks (V.post validate) thread key park_token timed)) (if result then None else Some Invalid) }
 {
     let (mut state, found) = enter(lot);
     let parked = state.park(thread, key, validate, park_token, timed);
@@ -126,7 +126,7 @@ pub fn unpark_one<R: Wait, A: Allocator, C: FnOnce(UnparkResult) -> UnparkToken 
     ensures told { (token : UnparkToken) × C.post callback result token }
     ensures one { result.unparked_threads ≤ 1 }
     ensures moved { result.requeued_threads ≡ 0 }
-    ensures done { (fair : Bool) × OnSomeLot (Does busy (UnparksOne fair (C.post callback) key)) result }
+    ensures done { (fair : Bool) × OnSomeLot (Does (busy key) (UnparksOne fair (C.post callback) key)) result }
 {
     let (mut state, found) = enter(lot);
     let first = state.first(key);
@@ -152,7 +152,7 @@ pub fn unpark_all<R: Wait, A: Allocator>(
     key: usize,
     unpark_token: UnparkToken,
 ) -> usize
-    ensures { OnSomeLot (Does busy (UnparksAll unpark_token key)) result }
+    ensures { OnSomeLot (Does (busy key) (UnparksAll unpark_token key)) result }
 {
     let (mut state, found) = enter(lot);
     let done = state.unpark_all(key, unpark_token);
@@ -186,8 +186,8 @@ where
     requires validate { V.IsAlwaysCallable validate }
     requires callback { C.IsAlwaysCallable callback }
     ensures told { Tells (V.post validate) (C.post callback) result }
-    ensures done { OnSomeLot (Does busy (UnparksAndRequeues (V.post validate) (C.post callback) key_from key_to))
-        result }
+    ensures done { OnSomeLot (Does (either_busy key_from key_to)
+        (UnparksAndRequeues (V.post validate) (C.post callback) key_from key_to)) result }
 {
     let (mut state, found) = enter(lot);
     let first = state.first(key_from);
@@ -223,8 +223,8 @@ where
     requires callback { C.IsAlwaysCallable callback }
     ensures told { (token : UnparkToken) × C.post callback result token }
     ensures shown { Counts F.step filter result }
-    ensures done { (fair : Bool) × OnSomeLot (Does busy (UnparksByFilter fair F.step filter (C.post callback) key))
-        result }
+    ensures done { (fair : Bool) × OnSomeLot (Does (busy key)
+        (UnparksByFilter fair F.step filter (C.post callback) key)) result }
 {
     let (mut state, found) = enter(lot);
     let done = state.unpark_filter(key, filter, callback);

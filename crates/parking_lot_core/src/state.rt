@@ -3,13 +3,13 @@
 //! No clause can name what a lock guards. So each call on a [`ParkingLot`](crate::ParkingLot) takes the lock and calls
 //! one of the functions here, whose clauses say what it does.
 ghost use Rattle.std.specs.Prelude.{◌≡◌, ◌<◌, ◌+◌, ◌%◌, ◌==◌, ◌⊎◌, IfOk, IfErr, IfSome, IsSome, Some, Err, true, []};
-ghost use Rattle.parking_lot_core_model.specs.Machine.{machine, free_number, busy, enter_fault, resume_fault};
+ghost use Rattle.parking_lot_core_model.specs.Machine.{machine, free_number, busy, either_busy, enter_fault};
+ghost use Rattle.parking_lot_core_model.specs.Machine.{resume_fault};
 ghost use Rattle.parking_lot_core_model.specs.Machine.{retire_fault, registered, retired, Does, Makes};
 ghost use Rattle.parking_lot_core_model.specs.Operations.{Parks, Resumes, UnparksOne, UnparksAll, UnparksByFilter};
 ghost use Rattle.parking_lot_core_model.specs.Operations.{UnparksAndRequeues};
-ghost use Rattle.parking_lot_core.specs.Shared.{admit_fault, waits_in, taken_in};
-ghost use Rattle.parking_lot_core_model.specs.Sound.{Sound};
-ghost use Rattle.parking_lot_core_model.specs.declared.fault.LotFault.TheVariants.{NoMemory};
+ghost use Rattle.parking_lot_core.specs.Shared.{admit_fault, waits_in, taken_in, AreClosed, IsQuiet};
+ghost use Rattle.parking_lot_core_model.specs.declared.fault.LotFault.TheVariants.{TooManyThreads, NoMemory};
 
 use crate::thread_data::ThreadData;
 use parking_lot_core_model::{
@@ -30,11 +30,13 @@ pub(crate) struct State<A: Allocator> {
     /// How many unparks there were since the last fair one.
     turns: u64,
     ghost below: { turns < 64 },
+    ghost closed: { AreClosed (machine lot) },
 }
 
 impl<A: Allocator> State<A> {
     /// Around a lot on which nobody has registered yet.
     pub fn new(lot: Lot<A>, seats: Vec<Arc<Condvar, A>, A>) -> State<A>
+        requires { AreClosed (machine lot) }
         ensures lot { result.lot ≡ lot }
         ensures turns { result.turns ≡ 0 }
     {
@@ -64,7 +66,7 @@ impl<A: Allocator> State<A> {
     fn is_taken(&self, thread: usize) -> bool
         ensures { result ≡ taken_in (machine self.now.lot) thread }
     {
-        matches!(self.lot.place(thread), Some(Place::Taken(_, _, _)))
+        matches!(self.lot.place(thread), Some(Place::Taken(_, _, _, _)))
     }
 
     /// Wakes a thread that was taken. One that is to sleep on isn't woken.
@@ -118,8 +120,8 @@ impl<A: Allocator> State<A> {
         timed: bool,
     ) -> Result<Option<ParkResult>, LotFault>
         requires { V.IsAlwaysCallable validate }
-        ensures sound { Sound (machine self.old.lot) }
-        ensures lot { Does (λ m. enter_fault m thread) (Parks (V.post validate) thread key park_token timed)
+        ensures quiet { IsQuiet (machine self.old.lot) }
+        ensures lot { Does (λ m. enter_fault m thread key) (Parks (V.post validate) thread key park_token timed)
             (machine self.old.lot) result (machine self.new.lot) }
         ensures turns { self.new.turns ≡ self.old.turns }
     {
@@ -129,7 +131,7 @@ impl<A: Allocator> State<A> {
 
     /// Gives a running thread's number back.
     pub fn retire(&mut self, thread: usize) -> Result<(), LotFault>
-        ensures sound { Sound (machine self.old.lot) }
+        ensures quiet { IsQuiet (machine self.old.lot) }
         ensures lot { Does (λ m. retire_fault m thread) (Makes (λ m. retired m thread)) (machine self.old.lot) result
             (machine self.new.lot) }
         ensures turns { self.new.turns ≡ self.old.turns }
@@ -145,13 +147,20 @@ impl<A: Allocator> State<A> {
         timed_out: T,
     ) -> Result<ParkResult, LotFault>
         requires { T.IsAlwaysCallable timed_out }
-        ensures sound { Sound (machine self.old.lot) }
+        ensures quiet { IsQuiet (machine self.old.lot) }
         ensures lot { Does (λ m. resume_fault m thread) (Resumes (λ key last. T.post timed_out key last tt) thread)
             (machine self.old.lot) result (machine self.new.lot) }
         ensures turns { self.new.turns ≡ self.old.turns }
     {
         self.lot.known();
         self.lot.resume(thread, timed_out)
+    }
+
+    /// Has a thread's moment be past, where it sleeps in a timed wait.
+    pub fn expire(&mut self, thread: usize)
+        ensures turns { self.new.turns ≡ self.old.turns }
+    {
+        let _ = self.lot.deadline(thread);
     }
 
     /// Takes the first waiter of a key.
@@ -161,9 +170,9 @@ impl<A: Allocator> State<A> {
         callback: C,
     ) -> Result<UnparkResult, LotFault>
         requires { C.IsAlwaysCallable callback }
-        ensures sound { Sound (machine self.old.lot) }
-        ensures lot { Does busy (UnparksOne (self.new.turns == 0) (C.post callback) key) (machine self.old.lot) result
-            (machine self.new.lot) }
+        ensures quiet { IsQuiet (machine self.old.lot) }
+        ensures lot { Does (busy key) (UnparksOne (self.new.turns == 0) (C.post callback) key)
+            (machine self.old.lot) result (machine self.new.lot) }
         ensures turns { self.new.turns ≡ (self.old.turns + 1) % 64 }
     {
         self.lot.known();
@@ -173,8 +182,9 @@ impl<A: Allocator> State<A> {
 
     /// Takes all waiters of a key and wakes them.
     pub fn unpark_all(&mut self, key: usize, unpark_token: UnparkToken) -> Result<usize, LotFault>
-        ensures sound { Sound (machine self.old.lot) }
-        ensures lot { Does busy (UnparksAll unpark_token key) (machine self.old.lot) result (machine self.new.lot) }
+        ensures quiet { IsQuiet (machine self.old.lot) }
+        ensures lot { Does (busy key) (UnparksAll unpark_token key) (machine self.old.lot) result
+            (machine self.new.lot) }
         ensures turns { self.new.turns ≡ self.old.turns }
     {
         self.lot.known();
@@ -195,8 +205,8 @@ impl<A: Allocator> State<A> {
         C: FnOnce(UnparkResult) -> UnparkToken + Drop,
         requires filter { F.IsAlwaysCallable filter }
         requires callback { C.IsAlwaysCallable callback }
-        ensures sound { Sound (machine self.old.lot) }
-        ensures lot { Does busy (UnparksByFilter (self.new.turns == 0) F.step filter (C.post callback) key)
+        ensures quiet { IsQuiet (machine self.old.lot) }
+        ensures lot { Does (busy key) (UnparksByFilter (self.new.turns == 0) F.step filter (C.post callback) key)
             (machine self.old.lot) result (machine self.new.lot) }
         ensures turns { self.new.turns ≡ (self.old.turns + 1) % 64 }
     {
@@ -220,9 +230,9 @@ impl<A: Allocator> State<A> {
         C: FnOnce(RequeueOp, UnparkResult) -> UnparkToken + Drop,
         requires validate { V.IsAlwaysCallable validate }
         requires callback { C.IsAlwaysCallable callback }
-        ensures sound { Sound (machine self.old.lot) }
-        ensures lot { Does busy (UnparksAndRequeues (V.post validate) (C.post callback) key_from key_to)
-            (machine self.old.lot) result (machine self.new.lot) }
+        ensures quiet { IsQuiet (machine self.old.lot) }
+        ensures lot { Does (either_busy key_from key_to)
+            (UnparksAndRequeues (V.post validate) (C.post callback) key_from key_to) (machine self.old.lot) result (machine self.new.lot) }
         ensures turns { self.new.turns ≡ self.old.turns }
     {
         self.lot.known();
@@ -234,7 +244,7 @@ impl<A: Allocator> State<A> {
 impl<A: Allocator + Clone> State<A> {
     /// Registers a participant of the lot with that number, which is to have so many threads at most.
     pub fn admit(&mut self, number: u64, max_threads: usize) -> Result<ThreadData<A>, LotFault>
-        ensures sound { Sound (machine self.old.lot) }
+        ensures quiet { IsQuiet (machine self.old.lot) }
         ensures full { IfSome (admit_fault max_threads (machine self.old.lot)) (λ fault. result ≡ Err fault) }
         ensures ok { IfOk result
             (λ made. (made ≡ record {
@@ -246,6 +256,7 @@ impl<A: Allocator + Clone> State<A> {
         ensures err { IfErr result
             (λ fault. ((admit_fault max_threads (machine self.old.lot) ≡ Some fault) ⊎ (fault ≡ NoMemory))
             × (machine self.new.lot ≡ machine self.old.lot)) }
+        ensures fault { IfErr result (λ fault. (fault ≡ TooManyThreads) ⊎ (fault ≡ NoMemory)) }
         ensures turns { self.new.turns ≡ self.old.turns }
     {
         self.lot.known();
@@ -263,9 +274,10 @@ impl<A: Allocator + Clone> State<A> {
         })
     }
 
-    /// Why nobody can register now.
+    /// Why nobody can register now. It is never that a section is open.
     fn admit_fault(&self, max_threads: usize) -> Option<LotFault>
-        ensures { result ≡ admit_fault max_threads (machine self.now.lot) }
+        ensures fault { result ≡ admit_fault max_threads (machine self.now.lot) }
+        ensures full { IfSome result (λ fault. fault ≡ TooManyThreads) }
     {
         if self.lot.next_number() < max_threads {
             self.lot.register_fault()

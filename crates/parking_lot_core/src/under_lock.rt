@@ -67,7 +67,7 @@ fn woken<'l, R: Wait, A: Allocator, C: Clock>(
             continue;
         };
         let Some(left) = time_left(moment, clock) else {
-            let _ = state.lot.deadline(thread_data.thread);
+            state.expire(thread_data.thread);
             return state;
         };
         let both = Timed { rt: &lot.rt, clock };

@@ -17,6 +17,12 @@ use Rattle.parking_lot_core_model.specs.Lists.{updated, is_under, lists_of, IsNt
 pub eqb_false_symm : (a b : ℕ) → (a == b) ≡ false → (b == a) ≡ false
 eqb_false_symm a b e = ne_eqb b a (λ h. eqb-false a b e (sym h))
 
+-- a test of two numbers, by cases
+pub by_eqb : (u t : ℕ) (P : Type 0) → (u ≡ t → P) → ((u == t) ≡ false → P) → P
+by_eqb u t P f g =
+    let both : (b : Bool) → (u == t) ≡ b → P = elim [ true ↦ λ e. f (eqb-true u t e) | false ↦ g ] in
+    both (u == t) refl
+
 module _ {X : Type 0} where
   -- what a change of a map comes to, key by key
   pub by_key : (f g : ℕ → X) (key : ℕ) → f key ≡ g key → ((k : ℕ) → (k == key) ≡ false → f k ≡ g k) → f ≡ g

@@ -1,5 +1,7 @@
 pub mod Kept
 pub mod Numbers
+pub mod Slots
+pub mod Entering
 pub mod Sounds
 pub mod Rooms
 pub mod Closing
@@ -13,3 +15,4 @@ pub mod Requeues
 pub mod Sequences
 pub mod Whole
 pub mod Filtering
+mod LeastBuckets

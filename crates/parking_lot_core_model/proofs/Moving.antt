@@ -10,8 +10,8 @@ use Rattle.parking_lot_core_model.specs.Lists.{updated}
 use Rattle.parking_lot_core_model.specs.Places.{all_changed, moved_to}
 use Rattle.parking_lot_core_model.specs.Machine.{Machine, threads_of, moved, moved_first}
 use Rattle.parking_lot_core_model.proofs.Kept.{updated_at, updated_other, updated_same, updated_twice, by_key}
-use Rattle.parking_lot_core_model.proofs.Kept.{eqb_false_symm}
-use Rattle.parking_lot_core_model.proofs.Sounds.{by_eqb, none≢some}
+use Rattle.parking_lot_core_model.proofs.Kept.{eqb_false_symm, by_eqb}
+use Rattle.parking_lot_core_model.proofs.Entering.{none≢some}
 use Rattle.parking_lot_core_model.proofs.Takings.{cut_more, all_changed_more, threads_more}
 
 module _ {X : Type 0} where

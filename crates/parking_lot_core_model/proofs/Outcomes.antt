@@ -1,6 +1,6 @@
 -- How calls end.
 use Rattle.std.proofs.Common.{◌≡◌, ℕ, Bool, true, false, cond, Option, Some, None, Result, Ok, Err, [], refl, sym, ap}
-use Rattle.std.proofs.Common.{◌∙◌, subst, is_some}
+use Rattle.std.proofs.Common.{◌∙◌, subst, is_some, ◌||◌}
 use Rattle.std.specs.Option.{option_map_or, IsSomeAnd, MatchOption}
 use Rattle.parking_lot_core_model.specs.declared.fault.LotFault.{LotFault}
 use Rattle.parking_lot_core_model.specs.declared.fault.LotFault.TheVariants.{WrongStatus, Busy}
@@ -13,8 +13,9 @@ use Rattle.parking_lot_core_model.specs.Results.{unpark_result}
 use Rattle.parking_lot_core_model.specs.Operations.{is_abort, Requeues, RequeuesBy}
 use Rattle.parking_lot_core_model.specs.declared.place.Phase.{Phase}
 use Rattle.parking_lot_core_model.specs.declared.place.Section.{Section}
-use Rattle.parking_lot_core_model.specs.Machine.{Machine, section_of, step_fault, busy, Unless}
-use Rattle.parking_lot_core_model.proofs.Sounds.{some≢none}
+use Rattle.parking_lot_core_model.specs.Machine.{Machine, open_at, section_of, in_section, step_fault, busy, either_busy}
+use Rattle.parking_lot_core_model.specs.Machine.{Unless}
+use Rattle.parking_lot_core_model.proofs.Entering.{some≢none}
 
 -- a call that isn't refused, and one that is
 pub unless_done : {T : Type 0} (o : Option LotFault) (r : Result T LotFault) (old new : Machine) (D : Type 0) → o ≡ None
@@ -38,11 +39,28 @@ pub allowed : (may : Phase → Bool) (m : Machine) (t : ℕ) (s : Section) → s
 allowed may m t s e ok = ap (λ o. cond (option_map_or (λ x. may x.phase) o false) None (Some WrongStatus)) e
     ∙ ap (λ b. cond b None (Some WrongStatus)) ok
 
--- where nothing is refused for it, no section is open
-pub free_section : (m : Machine) → busy m ≡ None → m.section ≡ None
-free_section m e = free m.section e
+-- a step of the section that a thread is in
+pub stepped : (step : Machine → ℕ → Machine) (t : ℕ) (m : Machine) (s : Section) → section_of m t ≡ Some s
+    → in_section step t m ≡ step m s.key
+stepped step t m s e = ap (λ (o : Option Section). option_map_or (λ x. step m x.key) o m) e
+
+-- where nothing is refused for it, no section is open in the key's bucket
+pub free_section : (m : Machine) (key : ℕ) → busy key m ≡ None → open_at m key ≡ None
+free_section m key e = free (open_at m key) e
   where
     free : (o : Option Section) → cond (is_some o) (Some Busy) None ≡ None → o ≡ None
+    free None e = refl
+    free (Some s) e = absurd (some≢none e)
+
+pub entering : (m : Machine) (key : ℕ) (b : Bool) → cond b (busy key m) (Some WrongStatus) ≡ None → (b ≡ true)
+    × (open_at m key ≡ None)
+entering m key true e = (refl, free_section m key e)
+entering m key false e = absurd (some≢none e)
+
+pub free_first : (m : Machine) (key other : ℕ) → either_busy key other m ≡ None → open_at m key ≡ None
+free_first m key other e = free (open_at m key) e
+  where
+    free : (o : Option Section) → cond (is_some o || is_some (open_at m other)) (Some Busy) None ≡ None → o ≡ None
     free None e = refl
     free (Some s) e = absurd (some≢none e)
 

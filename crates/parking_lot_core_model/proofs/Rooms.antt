@@ -4,6 +4,7 @@ use Rattle.std.proofs.Common.{slice_get, slice_set, refl, sym, ap, ◌∙◌, su
 use Rattle.std.specs.Option.{option_map, option_map_or}
 use Rattle.std.proofs.lemmas.Bool.{cond-true, cond-false}
 use Rattle.std.proofs.Math.ListN.{length-set}
+use Rattle.std.proofs.lemmas.Option.{slice_get_within}
 use Rattle.parking_lot_core_model.specs.declared.lists.Lists.{Lists}
 use Rattle.parking_lot_core_model.specs.declared.place.Place.{Place}
 use Rattle.parking_lot_core_model.specs.declared.place.Place.TheVariants.{Running, Waiting, Held, Taken}
@@ -20,24 +21,39 @@ waits place = option_map_or is_waiting place false
 
 module _ {A : Type 0} where
   -- a thread's place and the lists change, and the lists grow no more than the waiting do
-  pub room_next : (w v : Lists Waiter A) (ps : List (Option Place)) (max t : ℕ) (p : Place) (o : Option Place)
-      → Room w ps max → place_at ps t ≡ Some p
-      → room v ≡ room w → total v + flag (is_waiting p) ≤ total w + flag (waits o) → Room v (slice_set ps t o) max
-  room_next w v ps max t p o h at same fits =
+  pub room_next : (w v : Lists Waiter A) (ps : List (Option Place)) (max seats t : ℕ) (p : Place) (o : Option Place)
+      → Room w ps max seats → place_at ps t ≡ Some p
+      → room v ≡ room w → total v + flag (is_waiting p) ≤ total w + flag (waits o) → Room v (slice_set ps t o) max seats
+  room_next w v ps max seats t p o h at same fits =
       let c : count_by waits (slice_set ps t o) + flag (is_waiting p) ≡ count_by waits ps + flag (waits o) =
       count_by-set waits ps t (Some p) o (some_slot (slice_get ps t) p at) in
       let l : length (slice_set ps t o) ≡ length ps = length-set ps t o in
       let a = h.waits in
       let b = h.room in
       let d = h.threads in
-      record { waits = omega arith; room = omega arith; threads = omega arith; limit = h.limit }
+      let e = h.enters in
+      record {
+        waits = omega arith;
+        room = omega arith;
+        enters = omega arith;
+        threads = omega arith;
+        limit = h.limit;
+      }
 
   -- a running thread finds room
-  pub room_left : (w : Lists Waiter A) (ps : List (Option Place)) (max t : ℕ) → Room w ps max
+  pub room_left : (w : Lists Waiter A) (ps : List (Option Place)) (max seats t : ℕ) → Room w ps max seats
       → place_at ps t ≡ Some Running → total w < room w
-  room_left w ps max t h at =
+  room_left w ps max seats t h at =
       let c : count_by waits ps < length ps = count_by-lt waits ps t (Some Running)
       (some_slot (slice_get ps t) Running at) refl in
       let a = h.waits in
       let b = h.room in
+      omega arith
+
+  -- a registered thread has a seat
+  pub seated : (w : Lists Waiter A) (ps : List (Option Place)) (max seats t : ℕ) (p : Place) → Room w ps max seats
+      → place_at ps t ≡ Some p → t < seats
+  seated w ps max seats t p h at =
+      let c : t < length ps = slice_get_within ps t (Some p) (some_slot (slice_get ps t) p at) in
+      let e = h.enters in
       omega arith

@@ -1,5 +1,6 @@
 -- The lot as a machine of lists: one list of waiters for each key, and each thread's place and resources.
-use Rattle.std.specs.Prelude.{◌≡◌, ℕ, suc, ◌+◌, ◌%◌, ◌^◌, ◌==◌, ◌&&◌, Bool, true, false, not, nat_lt, if◌then◌else◌}
+use Rattle.std.specs.Prelude.{◌≡◌, ℕ, suc, ◌+◌, ◌%◌, ◌^◌, ◌==◌, ◌&&◌, ◌||◌, Bool, true, false, not, nat_lt}
+use Rattle.std.specs.Prelude.{if◌then◌else◌}
 use Rattle.std.specs.Prelude.{List, [], ◌∷◌, ◌++◌, length, map, take, drop, remove, Option, Some, None, is_some}
 use Rattle.std.specs.Prelude.{is_none, slice_get, slice_set, Result, Ok, Err, IsOk, IsSomeAnd, count_by, MatchBool}
 use Rattle.std.specs.Prelude.{MatchResult}
@@ -20,6 +21,7 @@ use Rattle.parking_lot_core_model.specs.declared.place.Section.{Section}
 use Rattle.parking_lot_core_model.specs.declared.place.Phase.{Phase}
 use Rattle.parking_lot_core_model.specs.declared.place.Phase.TheVariants as phase
 use Rattle.parking_lot_core_model.specs.Lists.{updated, without_first, lists_of}
+use Rattle.parking_lot_core_model.specs.Buckets.{threads_with, buckets_for, slot, any_open}
 use Rattle.parking_lot_core_model.specs.Places.{place_at, changed, all_changed, held, told, woken, moved_to}
 use Rattle.parking_lot_core_model.specs.Places.{sleeps_timed, status_of, mark_of, passed_of, may_return, has_slept}
 use Rattle.parking_lot_core_model.specs.Places.{has_joined, taken_with}
@@ -31,15 +33,19 @@ use Rattle.parking_lot_core_model.specs.Results.{woken_by, moved_by, left_by, An
 pub record Parts : Type 0 where
   pub number : ℕ
   pub max_threads : ℕ
+  pub paired : Bool
   pub sleeps : ℕ
   pub waiting : List (Entry Waiter)
   pub owned : List (Entry ℕ)
   pub places : List (Option Place)
-  pub section : Option Section
+  pub by_bucket : List (Option Section)
+  pub by_thread : List (Option ℕ)
 
 pub record Machine : Type 0 where
   pub number : ℕ
   pub max_threads : ℕ
+  -- whether each thread has two numbers
+  pub paired : Bool
   -- how many sleeps there were, modulo 2 ^ 64
   pub sleeps : ℕ
   -- the waiters of each key, in order
@@ -48,19 +54,26 @@ pub record Machine : Type 0 where
   pub resources : ℕ → List ℕ
   -- where each registered thread stands
   pub places : List (Option Place)
-  -- the section that is open
-  pub section : Option Section
+  -- how many buckets there are
+  pub buckets : ℕ
+  -- the section that is open in each bucket
+  pub sections : ℕ → Option Section
+  -- the key of the section that each thread is in
+  pub inside : ℕ → Option ℕ
 
 -- the machine that a lot is
 abbrev pub machine : Parts → Machine
 machine p = record {
   number = p.number;
   max_threads = p.max_threads;
+  paired = p.paired;
   sleeps = p.sleeps;
   queues = lists_of p.waiting;
   resources = lists_of p.owned;
   places = p.places;
-  section = p.section;
+  buckets = length p.by_bucket;
+  sections = slot p.by_bucket;
+  inside = slot p.by_thread;
 }
 
 -- its threads
@@ -75,20 +88,27 @@ tokens_of waiters = map (λ w. w.token) waiters
 abbrev pub is_thread : ℕ → Waiter → Bool
 is_thread thread waiter = waiter.thread == thread
 
--- the section is that thread's; the thread is in the section that is open
-abbrev pub is_of : ℕ → Section → Bool
-is_of thread section = option_map_or (λ owner. owner == thread) section.thread false
+-- the bucket of a key, and the section that is open there
+abbrev pub bucket_of : Machine → ℕ → ℕ
+bucket_of m key = key % m.buckets
 
+abbrev pub open_at : Machine → ℕ → Option Section
+open_at m key = m.sections (bucket_of m key)
+
+-- who has entered the bucket of a key
+abbrev pub entered_by : Machine → ℕ → Option ℕ
+entered_by m key = option_and_then (λ s. s.thread) (open_at m key)
+
+-- the thread is in a section, and in which one
 abbrev pub is_in : Machine → ℕ → Bool
-is_in m thread = option_map_or (is_of thread) m.section false
+is_in m thread = is_some (m.inside thread)
 
--- the open section, where it is the thread's
 abbrev pub section_of : Machine → ℕ → Option Section
-section_of m thread = option_and_then (λ s. if is_of thread s then Some s else None) m.section
+section_of m thread = option_and_then (open_at m) (m.inside thread)
 
--- what those that are held are to be told
-abbrev pub token_of : Machine → UnparkToken
-token_of m = option_map_or (λ s. s.token) m.section (record { 0 = 0 })
+-- what those that the section of a key holds are to be told
+abbrev pub token_of : Machine → ℕ → UnparkToken
+token_of m key = option_map_or (λ s. s.token) (open_at m key) (record { 0 = 0 })
 
 -- where a thread stands
 abbrev pub status_at : Machine → ℕ → Option ThreadStatus
@@ -109,21 +129,33 @@ free_number places = position_or_len is_none places
 
 -- WHY A CALL IS REFUSED
 
--- the section that it has to enter is open
-abbrev pub busy : Machine → Option LotFault
-busy m = if is_some m.section then Some Busy else None
+-- a section is open in the bucket of the key; in one of the buckets of two keys
+abbrev pub busy : ℕ → Machine → Option LotFault
+busy key m = if is_some (open_at m key) then Some Busy else None
 
--- all numbers are given out
+abbrev pub either_busy : ℕ → ℕ → Machine → Option LotFault
+either_busy key other m = if is_some (open_at m key) || is_some (open_at m other) then Some Busy else None
+
+-- how many buckets the threads have once one more is registered
+abbrev pub buckets_wanted : Machine → ℕ
+buckets_wanted m = buckets_for (threads_with m.paired (suc (free_number m.places)))
+
+-- there are to be more of them than now
+abbrev pub must_grow : Machine → Bool
+must_grow m = nat_lt m.buckets (buckets_wanted m)
+
+-- all numbers are given out; or there are to be more buckets, and a section is open
 abbrev pub register_fault : Machine → Option LotFault
-register_fault m = if nat_lt (free_number m.places) m.max_threads then None else Some TooManyThreads
+register_fault m = if nat_lt (free_number m.places) m.max_threads then if must_grow m && any_open m.sections m.buckets
+    then Some Busy else None else Some TooManyThreads
 
 -- the thread doesn't run
 abbrev pub retire_fault : Machine → ℕ → Option LotFault
 retire_fault m thread = if runs (status_at m thread) then None else Some WrongStatus
 
--- it doesn't run, or a section is open
-abbrev pub enter_fault : Machine → ℕ → Option LotFault
-enter_fault m thread = if runs (status_at m thread) then busy m else Some WrongStatus
+-- it doesn't run, or a section is open in the key's bucket
+abbrev pub enter_fault : Machine → ℕ → ℕ → Option LotFault
+enter_fault m thread key = if runs (status_at m thread) then busy key m else Some WrongStatus
 
 -- it isn't in a section, or in one that can't do this now
 abbrev pub step_fault : (Phase → Bool) → Machine → ℕ → Option LotFault
@@ -135,24 +167,24 @@ abbrev pub deadline_fault : Machine → ℕ → Option LotFault
 deadline_fault m thread = if not (is_in m thread) && option_map_or sleeps_timed (place_at m.places thread) false then
     None else Some WrongStatus
 
--- it was neither taken nor has its deadline come; or the section that took it, or that it has to enter, is open
-abbrev pub resume_fault_at : Option LotFault → Option Place → Option LotFault
+-- it was neither taken nor has its deadline come; or the section that took it is open, or one in the bucket of its list
+abbrev pub resume_fault_at : (ℕ → Option LotFault) → Option Place → Option LotFault
 resume_fault_at entry None = Some WrongStatus
 resume_fault_at entry (Some Running) = Some WrongStatus
-resume_fault_at entry (Some (Waiting key sleep)) = if sleep.late then entry else Some WrongStatus
-resume_fault_at entry (Some (Held sleep)) = Some Busy
-resume_fault_at entry (Some (Taken token sleep woken)) = if sleep.late then entry else None
+resume_fault_at entry (Some (Waiting key sleep)) = if sleep.late then entry key else Some WrongStatus
+resume_fault_at entry (Some (Held key sleep)) = Some Busy
+resume_fault_at entry (Some (Taken token key sleep woken)) = if sleep.late then entry key else None
 
 abbrev pub resume_fault : Machine → ℕ → Option LotFault
-resume_fault m thread = resume_fault_at (busy m) (place_at m.places thread)
+resume_fault m thread = resume_fault_at (λ key. busy key m) (place_at m.places thread)
 
 -- it isn't registered
 abbrev pub owner_fault : Machine → ℕ → Option LotFault
 owner_fault m thread = if is_some (place_at m.places thread) then None else Some WrongStatus
 
--- it doesn't sleep where it could come back into a section of the key; or a section is open
+-- it doesn't sleep where it could come back into a section of the key; or a section is open in the key's bucket
 abbrev pub return_fault : Machine → ℕ → ℕ → Option LotFault
-return_fault m thread key = if option_map_or (may_return key) (place_at m.places thread) false then busy m else Some
+return_fault m thread key = if option_map_or (may_return key) (place_at m.places thread) false then busy key m else Some
     WrongStatus
 
 -- it isn't in a section in which it stands in the list, or stood there when it fell asleep
@@ -191,7 +223,10 @@ changed_at f m thread = record m { places = changed f m.places thread }
 -- the least free number is given out
 abbrev pub registered : Machine → Machine
 registered m = let n = free_number m.places in
-    record m { places = take n m.places ++ Some Running ∷ drop (suc n) m.places }
+    record m {
+      places = take n m.places ++ Some Running ∷ drop (suc n) m.places;
+      buckets = if must_grow m then buckets_wanted m else m.buckets;
+    }
 
 -- a number is given back, with its resources
 abbrev pub retired : Machine → ℕ → Machine
@@ -218,7 +253,7 @@ joined m thread key token timed =
 -- a key's list is left with these waiters, and those others are woken with a token
 abbrev pub unparked : Machine → ℕ → List Waiter → List Waiter → UnparkToken → Machine
 unparked m key waiters rest token =
-    record m { queues = updated m.queues key rest; places = all_changed (woken token) m.places (threads_of waiters) }
+    record m { queues = updated m.queues key rest; places = all_changed (woken key token) m.places (threads_of waiters) }
 
 -- it is left with these waiters, and those others stand at the end of another key's list
 abbrev pub moved : Machine → ℕ → ℕ → List Waiter → List Waiter → Machine
@@ -254,44 +289,68 @@ abbrev pub resumed : Machine → ℕ → Option Place → Machine
 resumed m thread None = m
 resumed m thread (Some Running) = m
 resumed m thread (Some (Waiting key sleep)) = given_up m thread key
-resumed m thread (Some (Held sleep)) = m
-resumed m thread (Some (Taken token sleep woken)) = record m { places = slice_set m.places thread (Some Running) }
+resumed m thread (Some (Held key sleep)) = m
+resumed m thread (Some (Taken token key sleep woken)) = record m { places = slice_set m.places thread (Some Running) }
 
 -- SECTIONS
 
+-- the section that is open in the bucket of a key is another, or none
+abbrev pub with_section : Machine → ℕ → Option Section → Machine
+with_section m key section = record m { sections = updated m.sections (bucket_of m key) section }
+
+-- a section of a key at its beginning
+abbrev pub fresh_section : Option ℕ → ℕ → Section
+fresh_section owner key = record { thread = owner; key = key; phase = phase.Fresh; token = record { 0 = 0 } }
+
+-- its thread is in the section of the key; it is in none
+abbrev pub let_in : Option ℕ → ℕ → (ℕ → Option ℕ) → ℕ → Option ℕ
+let_in None key inside = inside
+let_in (Some thread) key inside = updated inside thread (Some key)
+
+abbrev pub let_out : Option ℕ → (ℕ → Option ℕ) → ℕ → Option ℕ
+let_out None inside = inside
+let_out (Some thread) inside = updated inside thread None
+
 -- a section of the key is opened
 abbrev pub opened : Machine → Option ℕ → ℕ → Machine
-opened m owner key =
-    record m { section = Some (record { thread = owner; key = key; phase = phase.Fresh; token = record { 0 = 0 } }) }
+opened m owner key = record (with_section m key (Some (fresh_section owner key)))
+    { inside = let_in owner key m.inside }
 
 -- it has come so far
-abbrev pub in_phase : Machine → Phase → Machine
-in_phase m ph = record m { section = option_map {T = Section} (λ s. record s { phase = ph }) m.section }
+abbrev pub in_phase : Machine → ℕ → Phase → Machine
+in_phase m key ph = with_section m key (option_map {T = Section} (λ s. record s { phase = ph }) (open_at m key))
 
 -- the waiter at that place of the key's list is taken out, and held
 abbrev pub taken : Machine → ℕ → ℕ → Machine
 taken m key nth =
     record m {
       queues = updated m.queues key (remove (m.queues key) nth);
-      places = option_map_or (λ w. changed held m.places w.thread) (slice_get (m.queues key) nth) m.places;
+      places = option_map_or (λ w. changed (held key) m.places w.thread) (slice_get (m.queues key) nth) m.places;
     }
 
 -- one that sleeps is back in a section of its key, awake by itself
 abbrev pub returned : Machine → ℕ → ℕ → Machine
-returned m thread key = in_phase (opened m (Some thread) key) phase.Joined
+returned m thread key = in_phase (opened m (Some thread) key) key phase.Joined
 
 -- It takes itself out of its list, or finds that it was taken: it runs, and takes nobody.
-abbrev pub quitted : Machine → ℕ → Machine
-quitted m thread = in_phase (resumed m thread (place_at m.places thread)) phase.Ended
+abbrev pub quitted : Machine → ℕ → ℕ → Machine
+quitted m thread key = in_phase (resumed m thread (place_at m.places thread)) key phase.Ended
 
 -- its store is said
-abbrev pub stored : Machine → UnparkToken → Machine
-stored m token = record m
-    { section = option_map {T = Section} (λ s. record s { phase = phase.Stored; token = token }) m.section }
+abbrev pub stored : Machine → ℕ → UnparkToken → Machine
+stored m key token = with_section m key
+    (option_map {T = Section} (λ s. record s { phase = phase.Stored; token = token }) (open_at m key))
 
 -- it is closed, and whom it took is told
-abbrev pub closed : Machine → Bool → Machine
-closed m woken = record m { places = map (option_map (told (token_of m) woken)) m.places; section = None }
+abbrev pub closed : Machine → ℕ → Bool → Machine
+closed m key woken = record (with_section m key None) {
+  places = map (option_map (told key (token_of m key) woken)) m.places;
+  inside = let_out (entered_by m key) m.inside;
+}
+
+-- a step of the section that the thread is in, where it is in one
+abbrev pub in_section : (Machine → ℕ → Machine) → ℕ → Machine → Machine
+in_section step thread m = option_map_or (λ s. step m s.key) (section_of m thread) m
 
 -- a waiter that is taken, with the mark of its sleep
 abbrev pub taking_of : Machine → Waiter → Taking
@@ -313,8 +372,8 @@ TakesNext {F} gives filter s old result new =
     × (let at = passed_of s.phase + count_by is_skip answers in
     MatchBool (list_any is_take answers)
     ((result ≡ Ok (option_map (taking_of old) (slice_get queue at)))
-    × (new ≡ taken (in_phase old (phase.Taking at)) s.key at))
-    ((result ≡ Ok None) × (new ≡ in_phase old phase.Ended)))
+    × (new ≡ taken (in_phase old s.key (phase.Taking at)) s.key at))
+    ((result ≡ Ok None) × (new ≡ in_phase old s.key phase.Ended)))
 
 -- the same in the thread's section
 abbrev pub TakesInSection : {F : Type 0} → (F → ParkToken → FilterOp → F → Type 0) → F → ℕ → Machine
@@ -323,15 +382,16 @@ TakesInSection shows filter thread old result new = IsSomeAnd (section_of old th
     (λ s. TakesNext shows filter s old result new)
 
 -- what the validation answered is said in the section, and answered
-abbrev pub Checks : Bool → Machine → Result Bool LotFault → Machine → Type 0
-Checks holds old result new = (result ≡ Ok holds) × (new ≡ in_phase old (if holds then phase.Valid else phase.Invalid))
+abbrev pub Checks : ℕ → Bool → Machine → Result Bool LotFault → Machine → Type 0
+Checks thread holds old result new = (result ≡ Ok holds)
+    × (new ≡ in_section (λ m key. in_phase m key (if holds then phase.Valid else phase.Invalid)) thread old)
 
 -- it quits, and is answered the token that it was taken with, where it was
 abbrev pub Quits : ℕ → Machine → Result (Option UnparkToken) LotFault → Machine → Type 0
 Quits thread old result new = (result ≡ Ok (option_and_then taken_with (place_at old.places thread)))
-    × (new ≡ quitted old thread)
+    × (new ≡ in_section (λ m key. quitted m thread key) thread old)
 
 -- the section's thread joins the end of its key's list
 abbrev pub Appends : {T : Type 0} → ℕ → ParkToken → Bool → Machine → Result T LotFault → Machine → Type 0
 Appends thread token timed old result new = IsOk result
-    × IsSomeAnd (section_of old thread) (λ s. new ≡ joined (in_phase old phase.Joined) thread s.key token timed)
+    × (new ≡ in_section (λ m key. joined (in_phase m key phase.Joined) thread key token timed) thread old)

@@ -20,10 +20,10 @@ use Rattle.parking_lot_core_model.specs.Results.{Answers, is_stop, is_left, unpa
 use Rattle.parking_lot_core_model.specs.Results.{woken_by, moved_by, left_by}
 use Rattle.parking_lot_core_model.specs.Machine.{Machine, threads_of, tokens_of, joined, unparked, given_up, requeued}
 
--- a key's list is left with these waiters, and those others are held by the section that is open
+-- a key's list is left with these waiters, and those others are held by a section of the key
 abbrev pub all_taken : Machine → ℕ → List Waiter → List Waiter → Machine
 all_taken m key waiters rest =
-    record m { queues = updated m.queues key rest; places = all_changed held m.places (threads_of waiters) }
+    record m { queues = updated m.queues key rest; places = all_changed (held key) m.places (threads_of waiters) }
 
 -- where the validation holds the thread joins the end of the key's list, else its park is over
 abbrev pub Parks : (Bool → Type 0) → ℕ → ℕ → ParkToken → Bool → Machine → Result (Option ParkResult) LotFault → Machine
@@ -62,13 +62,13 @@ UnparksByFilter {F} fair shows filter gives key old result new =
 -- and is told whether it was the last
 abbrev pub ResumesFrom : Option Place → (ℕ → Bool → Type 0) → Machine → ℕ → Result ParkResult LotFault → Machine
     → Type 0
-ResumesFrom (Some (Taken token sleep woken)) tells old thread result new = (result ≡ Ok (Unparked token))
+ResumesFrom (Some (Taken token key sleep woken)) tells old thread result new = (result ≡ Ok (Unparked token))
     × (new ≡ record old { places = slice_set old.places thread (Some Running) })
 ResumesFrom (Some (Waiting key sleep)) tells old thread result new =
     (result ≡ Ok TimedOut) × (new ≡ given_up old thread key)
     × tells key (not (is_left ((given_up old thread key).queues key)))
 ResumesFrom (Some Running) tells old thread result new = ⊥
-ResumesFrom (Some (Held sleep)) tells old thread result new = ⊥
+ResumesFrom (Some (Held key sleep)) tells old thread result new = ⊥
 ResumesFrom None tells old thread result new = ⊥
 
 abbrev pub Resumes : (ℕ → Bool → Type 0) → ℕ → Machine → Result ParkResult LotFault → Machine → Type 0

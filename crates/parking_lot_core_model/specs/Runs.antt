@@ -18,6 +18,7 @@ use Rattle.parking_lot_core_model.specs.Places.{may_store, passed_of}
 use Rattle.parking_lot_core_model.specs.Results.{chosen_by, passed_by, is_take, is_skip}
 use Rattle.parking_lot_core_model.specs.Machine.{Machine, section_of, any_phase, busy, register_fault, retire_fault}
 use Rattle.parking_lot_core_model.specs.Machine.{enter_fault, step_fault, deadline_fault, resume_fault, return_fault}
+use Rattle.parking_lot_core_model.specs.Machine.{either_busy, in_section}
 use Rattle.parking_lot_core_model.specs.Machine.{quit_fault, owner_fault, changed_at, registered, retired, recorded}
 use Rattle.parking_lot_core_model.specs.Machine.{forgotten, joined, unparked, requeued, resumed, opened, in_phase}
 use Rattle.parking_lot_core_model.specs.Machine.{returned, quitted, taken, stored, closed}
@@ -51,17 +52,17 @@ pub data Operation : Type 0 where
 abbrev pub fault_of : Machine → Operation → Option LotFault
 fault_of m Register = register_fault m
 fault_of m (Retire thread) = retire_fault m thread
-fault_of m (Park thread key valid token timed) = enter_fault m thread
+fault_of m (Park thread key valid token timed) = enter_fault m thread key
 fault_of m (Resume thread) = resume_fault m thread
 fault_of m (Deadline thread) = deadline_fault m thread
 fault_of m (Wake thread mark) = None
-fault_of m (UnparkOne key token) = busy m
-fault_of m (UnparkAll key token) = busy m
-fault_of m (UnparkFilter key answers token) = busy m
-fault_of m (UnparkRequeue from to op token) = busy m
+fault_of m (UnparkOne key token) = busy key m
+fault_of m (UnparkAll key token) = busy key m
+fault_of m (UnparkFilter key answers token) = busy key m
+fault_of m (UnparkRequeue from to op token) = either_busy from to m
 fault_of m (Acquire thread key) = owner_fault m thread
 fault_of m (Release thread key) = owner_fault m thread
-fault_of m (Enter thread key) = enter_fault m thread
+fault_of m (Enter thread key) = enter_fault m thread key
 fault_of m (Check thread holds) = step_fault may_check m thread
 fault_of m (TakeNext thread answers) = step_fault may_take m thread
 fault_of m (Append thread token timed) = step_fault may_join m thread
@@ -74,7 +75,7 @@ fault_of m (Quit thread) = quit_fault m thread
 abbrev pub taken_next : Machine → List FilterOp → Section → Machine
 taken_next m answers s =
     let at = passed_of s.phase + count_by is_skip answers in
-    if list_any is_take answers then taken (in_phase m (phase.Taking at)) s.key at else in_phase m phase.Ended
+    if list_any is_take answers then taken (in_phase m s.key (phase.Taking at)) s.key at else in_phase m s.key phase.Ended
 
 -- what it leaves, where it isn't refused
 abbrev pub effect_of : Machine → Operation → Machine
@@ -93,14 +94,15 @@ effect_of m (UnparkRequeue from to op token) = if is_abort op then m else requeu
 effect_of m (Acquire thread key) = recorded m thread key
 effect_of m (Release thread key) = forgotten m thread key
 effect_of m (Enter thread key) = opened m (Some thread) key
-effect_of m (Check thread holds) = in_phase m (if holds then phase.Valid else phase.Invalid)
+effect_of m (Check thread holds) = in_section
+    (λ n key. in_phase n key (if holds then phase.Valid else phase.Invalid)) thread m
 effect_of m (TakeNext thread answers) = option_map_or (taken_next m answers) (section_of m thread) m
-effect_of m (Append thread token timed) = option_map_or (λ s. joined (in_phase m phase.Joined) thread s.key token timed)
-    (section_of m thread) m
-effect_of m (StoreDone thread token) = stored m token
-effect_of m (Leave thread) = closed m false
+effect_of m (Append thread token timed) = in_section
+    (λ n key. joined (in_phase n key phase.Joined) thread key token timed) thread m
+effect_of m (StoreDone thread token) = in_section (λ n key. stored n key token) thread m
+effect_of m (Leave thread) = in_section (λ n key. closed n key false) thread m
 effect_of m (Return thread key) = returned m thread key
-effect_of m (Quit thread) = quitted m thread
+effect_of m (Quit thread) = in_section (λ n key. quitted n thread key) thread m
 
 -- a refused one leaves all as it was
 abbrev pub unless_refused : Option LotFault → Machine → Machine → Machine
@@ -115,14 +117,20 @@ abbrev pub after_all : Machine → List Operation → Machine
 after_all m [] = m
 after_all m (operation ∷ operations) = after_all (after m operation) operations
 
--- a new lot: nobody is registered, nobody waits
+-- a new lot: nobody is registered, nobody waits; the same for threads with two numbers each
 abbrev pub fresh : ℕ → ℕ → Machine
 fresh limit number = record {
   number = number;
   max_threads = limit;
+  paired = false;
   sleeps = 0;
   queues = λ _. [];
   resources = λ _. [];
   places = [];
-  section = None;
+  buckets = 16;
+  sections = λ _. None;
+  inside = λ _. None;
 }
+
+abbrev pub fresh_paired : ℕ → ℕ → Machine
+fresh_paired limit number = record (fresh limit number) { paired = true }

@@ -3,9 +3,10 @@
 //! [`Lot`] is exclusive and exact: each of its calls is a move on the lists, and its contracts say which.
 //!
 //! Contracts speak of a machine: a list of waiters for each key, a place and recorded resources for each thread, and
-//! the section that is open. What a `Lot` is made of is hidden behind it.
+//! the sections that are open, one at most in each bucket of keys. What a `Lot` is made of is hidden behind it.
 #![tactic(auto)]
 
+mod buckets;
 mod fault;
 pub mod laws;
 mod lists;

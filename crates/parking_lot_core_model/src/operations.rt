@@ -1,11 +1,14 @@
 //! Whole operations: a thread parks and goes on, and others are unparked.
-ghost use Rattle.std.specs.Prelude.{◌≡◌, ◌≤◌, Some, true, false, IsSome, drop, take, length, List};
+ghost use Rattle.std.specs.Prelude.{◌≡◌, ◌≤◌, Some, None, true, false, drop, take, length, List};
 ghost use Rattle.parking_lot_core_model.specs.declared.parking.FilterOp.{FilterOp};
 ghost use Rattle.parking_lot_core_model.specs.declared.place.Place.TheVariants.{Waiting};
 ghost use Rattle.parking_lot_core_model.specs.Places.{place_at};
 ghost use Rattle.parking_lot_core_model.specs.Results.{Answers, is_stop, unpark_result, chosen_by, passed_by, woken_by};
 ghost use Rattle.parking_lot_core_model.specs.Results.{moved_by, left_by, fairly};
 ghost use Rattle.parking_lot_core_model.specs.Machine.{machine, tokens_of, busy, enter_fault, resume_fault, stored};
+ghost use Rattle.parking_lot_core_model.specs.Machine.{either_busy, open_at};
+ghost use Rattle.parking_lot_core_model.specs.Sound.{IsOpen};
+ghost use Rattle.parking_lot_core_model.specs.declared.place.Section.{Section};
 ghost use Rattle.parking_lot_core_model.specs.Machine.{closed, taken, given_up, moved, Does};
 ghost use Rattle.parking_lot_core_model.specs.Operations.{all_taken, is_abort, woken_count, moved_count, Resumes};
 ghost use Rattle.parking_lot_core_model.specs.Operations.{Parks, UnparksOne, UnparksAll, UnparksByFilter};
@@ -33,10 +36,11 @@ impl<A: Allocator> Lot<A> {
     where
         V: Drop,
         requires { V.IsAlwaysCallable validate }
-        ensures { Does (λ m. enter_fault m thread) (Parks (V.post validate) thread key park_token timed)
+        ensures { Does (λ m. enter_fault m thread key) (Parks (V.post validate) thread key park_token timed)
             (machine self.old) result (machine self.new) }
     {
-        if let Some(fault) = self.enter_fault(thread) {
+        let _ = &self.number;
+        if let Some(fault) = self.enter_fault(thread, key) {
             return Err(fault);
         }
         if !validate() {
@@ -64,7 +68,7 @@ impl<A: Allocator> Lot<A> {
             return Err(fault);
         }
         match self.place(thread) {
-            Some(Place::Taken(token, _, _)) => {
+            Some(Place::Taken(token, _, _, _)) => {
                 put(&mut self.places, thread, Some(Place::Running));
                 Ok(ParkResult::Unparked(token))
             }
@@ -82,10 +86,10 @@ impl<A: Allocator> Lot<A> {
         ensures { result ≡ resume_fault (machine self.now) thread }
     {
         match self.place(thread) {
-            Some(Place::Taken(_, sleep, _)) if !sleep.late => None,
-            Some(Place::Taken(_, _, _)) => self.busy(),
-            Some(Place::Held(_)) => Some(LotFault::Busy),
-            Some(Place::Waiting(_, sleep)) if sleep.late => self.busy(),
+            Some(Place::Taken(_, _, sleep, _)) if !sleep.late => None,
+            Some(Place::Taken(_, key, _, _)) => self.busy(key),
+            Some(Place::Held(_, _)) => Some(LotFault::Busy),
+            Some(Place::Waiting(key, sleep)) if sleep.late => self.busy(key),
             _ => Some(LotFault::WrongStatus),
         }
     }
@@ -100,7 +104,7 @@ impl<A: Allocator> Lot<A> {
     where
         C: Drop,
         requires { C.IsAlwaysCallable callback }
-        ensures { Does busy (UnparksOne false (C.post callback) key) (machine self.old) result (machine self.new) }
+        ensures { Does (busy key) (UnparksOne false (C.post callback) key) (machine self.old) result (machine self.new) }
     {
         self.unpark_first(key, false, callback)
     }
@@ -115,30 +119,30 @@ impl<A: Allocator> Lot<A> {
     where
         C: Drop,
         requires { C.IsAlwaysCallable callback }
-        ensures { Does busy (UnparksOne fair (C.post callback) key) (machine self.old) result (machine self.new) }
+        ensures { Does (busy key) (UnparksOne fair (C.post callback) key) (machine self.old) result (machine self.new) }
     {
-        if let Some(fault) = self.busy() {
+        if let Some(fault) = self.busy(key) {
             return Err(fault);
         }
         self.open(None, key);
         let woken = self.take_first(key);
         let result = self.outcome(key, woken, fair);
         let token = callback(result);
-        self.finish(token);
+        self.finish(key, token);
         Ok(result)
     }
 
     /// Takes all waiters of a key, wakes them with the token and answers how many they were.
     pub fn unpark_all(&mut self, key: usize, unpark_token: UnparkToken) -> Result<usize, LotFault>
-        ensures { Does busy (UnparksAll unpark_token key) (machine self.old) result (machine self.new) }
+        ensures { Does (busy key) (UnparksAll unpark_token key) (machine self.old) result (machine self.new) }
     {
-        if let Some(fault) = self.busy() {
+        if let Some(fault) = self.busy(key) {
             return Err(fault);
         }
         self.open(None, key);
         let count = self.count(key);
         self.take_all(key, count);
-        self.finish(unpark_token);
+        self.finish(key, unpark_token);
         Ok(count)
     }
 
@@ -152,7 +156,7 @@ impl<A: Allocator> Lot<A> {
         C: Drop,
         requires filter { F.IsAlwaysCallable filter }
         requires callback { C.IsAlwaysCallable callback }
-        ensures { Does busy (UnparksByFilter false F.step filter (C.post callback) key) (machine self.old) result
+        ensures { Does (busy key) (UnparksByFilter false F.step filter (C.post callback) key) (machine self.old) result
             (machine self.new) }
     {
         self.unpark_wanted(key, false, filter, callback)
@@ -167,17 +171,17 @@ impl<A: Allocator> Lot<A> {
         C: Drop,
         requires filter { F.IsAlwaysCallable filter }
         requires callback { C.IsAlwaysCallable callback }
-        ensures { Does busy (UnparksByFilter fair F.step filter (C.post callback) key) (machine self.old) result
+        ensures { Does (busy key) (UnparksByFilter fair F.step filter (C.post callback) key) (machine self.old) result
             (machine self.new) }
     {
-        if let Some(fault) = self.busy() {
+        if let Some(fault) = self.busy(key) {
             return Err(fault);
         }
         self.open(None, key);
         let woken = self.sift(key, filter);
         let result = self.outcome(key, woken, fair);
         let token = callback(result);
-        self.finish(token);
+        self.finish(key, token);
         Ok(result)
     }
 
@@ -199,10 +203,11 @@ impl<A: Allocator> Lot<A> {
         C: Drop,
         requires validate { V.IsAlwaysCallable validate }
         requires callback { C.IsAlwaysCallable callback }
-        ensures { Does busy (UnparksAndRequeues (V.post validate) (C.post callback) key_from key_to) (machine self.old)
-            result (machine self.new) }
+        ensures { Does (either_busy key_from key_to)
+            (UnparksAndRequeues (V.post validate) (C.post callback) key_from key_to) (machine self.old) result
+            (machine self.new) }
     {
-        if let Some(fault) = self.busy() {
+        if let Some(fault) = self.either_busy(key_from, key_to) {
             return Err(fault);
         }
         let op = validate();
@@ -212,16 +217,17 @@ impl<A: Allocator> Lot<A> {
         self.open(None, key_from);
         let result = self.requeue(op, key_from, key_to);
         let token = callback(op, result);
-        self.finish(token);
+        self.finish(key_from, token);
         Ok(result)
     }
 
-    /// Gives those that were taken their token, closes the section and wakes them.
-    fn finish(&mut self, token: UnparkToken)
-        ensures { machine self.new ≡ closed (stored (machine self.old) token) true }
+    /// Gives those that were taken their token, closes the key's section and wakes them.
+    fn finish(&mut self, key: usize, token: UnparkToken)
+        requires { IsOpen (machine self.old) key }
+        ensures { machine self.new ≡ closed (stored (machine self.old) key token) key true }
     {
-        self.say_store(token);
-        self.close(true);
+        self.say_store(key, token);
+        self.close(key, true);
     }
 
     /// What is answered once so many were woken and the key's list is left as it is.
@@ -238,7 +244,7 @@ impl<A: Allocator> Lot<A> {
 
     /// Takes the first waiter of a key, and answers how many that were.
     fn take_first(&mut self, key: usize) -> usize
-        requires { IsSome (machine self.old).section }
+        requires { IsOpen (machine self.old) key }
         ensures count { result ≡ length (take 1 ((machine self.old).queues key)) }
         ensures taken { machine self.new ≡ all_taken (machine self.old) key (take 1 ((machine self.old).queues key))
             (drop 1 ((machine self.old).queues key)) }
@@ -251,7 +257,7 @@ impl<A: Allocator> Lot<A> {
 
     /// Takes so many waiters of a key, from the front.
     fn take_all(&mut self, key: usize, count: usize)
-        requires { IsSome (machine self.old).section }
+        requires { IsOpen (machine self.old) key }
         ensures { machine self.new ≡ all_taken (machine self.old) key (take count ((machine self.old).queues key))
             (drop count ((machine self.old).queues key)) }
     {
@@ -262,7 +268,7 @@ impl<A: Allocator> Lot<A> {
 
     /// Takes those waiters of a key that a filter wants, and answers how many.
     fn sift<F: FnMut(ParkToken) -> FilterOp + Drop>(&mut self, key: usize, mut filter: F) -> usize
-        requires open { IsSome (machine self.old).section }
+        requires entered { IsOpen (machine self.old) key }
         requires callable { F.IsAlwaysCallable filter }
         ensures { let queue = (machine self.old).queues key in (answers : List FilterOp) × (last : F)
             × Answers F.step is_stop filter (tokens_of queue) answers last × (result ≡ length (chosen_by answers queue))
@@ -289,7 +295,8 @@ impl<A: Allocator> Lot<A> {
 
     /// Takes and moves waiters as the operation says, and answers what was done.
     fn requeue(&mut self, op: RequeueOp, from: usize, to: usize) -> UnparkResult
-        requires { IsSome (machine self.old).section }
+        requires entered { IsOpen (machine self.old) from }
+        requires nobody { (s : Section) → open_at (machine self.old) from ≡ Some s → s.thread ≡ None }
         ensures result { let queue = (machine self.old).queues from in
             result ≡ unpark_result (length (woken_by op queue)) (length (moved_by op queue)) (left_by op queue) }
         ensures lists { let queue = (machine self.old).queues from in
@@ -312,7 +319,8 @@ impl<A: Allocator> Lot<A> {
 
     /// Moves so many waiters of a key to the end of another's list, from the front.
     fn move_all(&mut self, from: usize, to: usize, count: usize)
-        requires { count ≤ length ((machine self.old).queues from) }
+        requires within { count ≤ length ((machine self.old).queues from) }
+        requires nobody { (s : Section) → open_at (machine self.old) from ≡ Some s → s.thread ≡ None }
         ensures { machine self.new ≡ moved (machine self.old) from to (take count ((machine self.old).queues from))
             (drop count ((machine self.old).queues from)) }
     {

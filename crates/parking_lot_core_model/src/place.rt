@@ -1,8 +1,9 @@
 //! Where the threads of a lot stand, and what an open section has done.
-ghost use Rattle.std.specs.Prelude.{◌≡◌};
+ghost use Rattle.std.specs.Prelude.{◌≡◌, ℕ, Some};
 ghost use Rattle.parking_lot_core_model.specs.Places.{sleeps_timed, may_return, has_slept, taken_with, mark_of, is_due};
 ghost use Rattle.parking_lot_core_model.specs.Places.{roused, late, status_of, may_check, may_join, may_take};
-ghost use Rattle.parking_lot_core_model.specs.Places.{may_store, has_joined, passed_of};
+ghost use Rattle.parking_lot_core_model.specs.Places.{may_store, has_joined, passed_of, held_at};
+ghost use Rattle.parking_lot_core_model.specs.declared.parking.UnparkToken.{UnparkToken};
 
 use crate::lists::Numbered;
 use crate::parking::{ParkToken, UnparkToken};
@@ -45,10 +46,10 @@ pub enum Place {
     Running,
     /// In the key's list.
     Waiting(usize, Sleep),
-    /// Taken by the section that is open, which hasn't given its token yet.
-    Held(Sleep),
-    /// Taken with that token. The flag says whether it was woken.
-    Taken(UnparkToken, Sleep, bool),
+    /// Taken out of the key's list by a section that is open, and hasn't given its token yet.
+    Held(usize, Sleep),
+    /// Taken with that token out of the key's list. The flag says whether it was woken.
+    Taken(UnparkToken, usize, Sleep, bool),
 }
 
 /// A thread in a list, with the token that it parked with.
@@ -123,7 +124,7 @@ impl Place {
         ensures { result ≡ sleeps_timed self }
     {
         match self {
-            Place::Waiting(_, sleep) | Place::Held(sleep) | Place::Taken(_, sleep, false) => {
+            Place::Waiting(_, sleep) | Place::Held(_, sleep) | Place::Taken(_, _, sleep, false) => {
                 sleep.timed && !sleep.late
             }
             _ => false,
@@ -136,7 +137,7 @@ impl Place {
     {
         match self {
             Place::Waiting(list, _) => list == key,
-            Place::Taken(_, _, woken) => !woken,
+            Place::Taken(_, list, _, woken) => list == key && !woken,
             _ => false,
         }
     }
@@ -145,7 +146,7 @@ impl Place {
     pub(crate) fn has_slept(self) -> bool
         ensures { result ≡ has_slept self }
     {
-        matches!(self, Place::Waiting(_, _) | Place::Taken(_, _, _))
+        matches!(self, Place::Waiting(_, _) | Place::Taken(_, _, _, _))
     }
 
     /// The token that the thread was taken with.
@@ -153,7 +154,7 @@ impl Place {
         ensures { result ≡ taken_with self }
     {
         match self {
-            Place::Taken(token, _, _) => Some(token),
+            Place::Taken(token, _, _, _) => Some(token),
             _ => None,
         }
     }
@@ -163,7 +164,7 @@ impl Place {
         ensures { result ≡ is_due mark self }
     {
         match self {
-            Place::Taken(_, sleep, woken) => sleep.mark == mark && !woken,
+            Place::Taken(_, _, sleep, woken) => sleep.mark == mark && !woken,
             _ => false,
         }
     }
@@ -174,7 +175,9 @@ impl Place {
     {
         match self {
             Place::Running => 0,
-            Place::Waiting(_, sleep) | Place::Held(sleep) | Place::Taken(_, sleep, _) => sleep.mark,
+            Place::Waiting(_, sleep) | Place::Held(_, sleep) | Place::Taken(_, _, sleep, _) => {
+                sleep.mark
+            }
         }
     }
 
@@ -183,7 +186,7 @@ impl Place {
         ensures { result ≡ roused self }
     {
         match self {
-            Place::Taken(token, sleep, _) => Place::Taken(token, sleep, true),
+            Place::Taken(token, key, sleep, _) => Place::Taken(token, key, sleep, true),
             other => other,
         }
     }
@@ -201,13 +204,17 @@ impl Place {
                     ..sleep
                 },
             ),
-            Place::Held(sleep) => Place::Held(Sleep {
-                late: true,
-                ..sleep
-            }),
-            Place::Taken(token, sleep, woken) => {
+            Place::Held(key, sleep) => Place::Held(
+                key,
+                Sleep {
+                    late: true,
+                    ..sleep
+                },
+            ),
+            Place::Taken(token, key, sleep, woken) => {
                 Place::Taken(
                     token,
+                    key,
                     Sleep {
                         late: true,
                         ..sleep
@@ -218,20 +225,31 @@ impl Place {
         }
     }
 
-    /// What is told of it, while those that are held are to be told that token.
+    /// What is told of it, where those that a section holds are to be told that token.
     pub(crate) fn status(self, token: UnparkToken) -> ThreadStatus
-        ensures { result ≡ status_of token self }
+        ensures { (told : ℕ → UnparkToken) → ((key : ℕ) → held_at self ≡ Some key → told key ≡ token)
+            → result ≡ status_of told self }
     {
         match self {
             Place::Running => ThreadStatus::Running,
-            Place::Waiting(_, sleep) | Place::Held(sleep) | Place::Taken(_, sleep, _)
+            Place::Waiting(_, sleep) | Place::Held(_, sleep) | Place::Taken(_, _, sleep, _)
                 if sleep.late => { ThreadStatus::PastDeadline }
             Place::Waiting(key, sleep) => ThreadStatus::Waiting {
                 key,
                 timed: sleep.timed,
             },
-            Place::Held(_) => ThreadStatus::Taken(token),
-            Place::Taken(told, _, _) => ThreadStatus::Taken(told),
+            Place::Held(_, _) => ThreadStatus::Taken(token),
+            Place::Taken(told, _, _, _) => ThreadStatus::Taken(told),
+        }
+    }
+
+    /// The key of the list that it was taken out of, while a section holds it.
+    pub(crate) fn held_at(self) -> Option<usize>
+        ensures { result ≡ held_at self }
+    {
+        match self {
+            Place::Held(key, _) => Some(key),
+            _ => None,
         }
     }
 }

@@ -45,12 +45,12 @@ fn first_free(places: &[Option<Place>]) -> Option<usize>
     places.iter().position(|place| place.is_none())
 }
 
-/// Takes a waiting thread for the section that is open.
-pub(crate) fn hold<A: Allocator>(places: &mut Vec<Option<Place>, A>, thread: usize)
-    ensures { places.new.items ≡ changed held places.old.items thread }
+/// Takes a waiting thread for a section of the key.
+pub(crate) fn hold<A: Allocator>(places: &mut Vec<Option<Place>, A>, thread: usize, key: usize)
+    ensures { places.new.items ≡ changed (held key) places.old.items thread }
 {
     let place = place_at(places, thread).map(|place| match place {
-        Place::Waiting(_, sleep) => Place::Held(sleep),
+        Place::Waiting(_, sleep) => Place::Held(key, sleep),
         other => other,
     });
     put(places, thread, place);
@@ -67,32 +67,35 @@ pub(crate) fn relist<A: Allocator>(places: &mut Vec<Option<Place>, A>, thread: u
     put(places, thread, place);
 }
 
-/// Tells those that are held their token.
+/// Tells those that the section of a key holds their token.
 pub(crate) fn tell<A: Allocator>(
     places: &mut Vec<Option<Place>, A>,
+    key: usize,
     token: UnparkToken,
     woken: bool,
 )
-    ensures { places.new.items ≡ map (option_map (told token woken)) places.old.items }
+    ensures { places.new.items ≡ map (option_map (told key token woken)) places.old.items }
 {
-    tell_each(places, token, woken);
+    tell_each(places, key, token, woken);
 }
 
 /// The same of a slice.
-fn tell_each(places: &mut [Option<Place>], token: UnparkToken, woken: bool)
-    ensures { places.new ≡ map (option_map (told token woken)) places.old }
+fn tell_each(places: &mut [Option<Place>], key: usize, token: UnparkToken, woken: bool)
+    ensures { places.new ≡ map (option_map (told key token woken)) places.old }
 {
     for place in places.iter_mut() {
-        *place = place_told(*place, token, woken);
+        *place = place_told(*place, key, token, woken);
     }
 }
 
 /// What is told of one place.
-fn place_told(place: Option<Place>, token: UnparkToken, woken: bool) -> Option<Place>
-    ensures { result ≡ option_map (told token woken) place }
+fn place_told(place: Option<Place>, key: usize, token: UnparkToken, woken: bool) -> Option<Place>
+    ensures { result ≡ option_map (told key token woken) place }
 {
     match place {
-        Some(Place::Held(sleep)) => Some(Place::Taken(token, sleep, woken)),
+        Some(Place::Held(list, sleep)) if list == key => {
+            Some(Place::Taken(token, list, sleep, woken))
+        }
         other => other,
     }
 }

@@ -31,21 +31,26 @@ impl<A: Allocator> Lot<A> {
         ensures { result ≡ return_fault (machine self.now) thread key }
     {
         match self.place(thread) {
-            Some(place) if place.may_return(key) => self.busy(),
+            Some(place) if place.may_return(key) => self.busy(key),
             _ => Some(LotFault::WrongStatus),
         }
     }
 
     /// Opens a section of a thread that stands in the list.
     fn reopen(&mut self, thread: usize, key: usize)
+        requires { return_fault (machine self.old) thread key ≡ None }
         ensures { machine self.new ≡ returned (machine self.old) thread key }
     {
-        self.section = Some(Section {
-            thread: Some(thread),
+        self.buckets.put(
             key,
-            phase: Phase::Joined,
-            token: DEFAULT_UNPARK_TOKEN,
-        });
+            Some(Section {
+                thread: Some(thread),
+                key,
+                phase: Phase::Joined,
+                token: DEFAULT_UNPARK_TOKEN,
+            }),
+        );
+        self.buckets.seat(thread, Some(key));
     }
 
     /// Has a thread that came back take itself out of its list. Where it was taken before it finds its token instead,
@@ -57,9 +62,12 @@ impl<A: Allocator> Lot<A> {
         if let Some(fault) = self.quit_fault(thread) {
             return Err(fault);
         }
+        let Some(section) = self.section_of(thread) else {
+            return Err(LotFault::WrongStatus);
+        };
         let token = self.place(thread).and_then(|place| place.taken_with());
         self.go_on(thread);
-        self.set_phase(Phase::Ended);
+        self.set_phase(section.key, Phase::Ended);
         Ok(token)
     }
 
@@ -100,7 +108,7 @@ impl<A: Allocator> Lot<A> {
     {
         match self.place(thread) {
             Some(Place::Waiting(key, _)) => self.give_up(thread, key),
-            Some(Place::Taken(_, _, _)) => put(&mut self.places, thread, Some(Place::Running)),
+            Some(Place::Taken(_, _, _, _)) => put(&mut self.places, thread, Some(Place::Running)),
             _ => {}
         }
     }

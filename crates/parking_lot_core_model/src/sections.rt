@@ -10,7 +10,9 @@ ghost use Rattle.parking_lot_core_model.specs.Places.{place_at, mark_of, may_che
 ghost use Rattle.parking_lot_core_model.specs.Results.{Answers, is_no_skip, is_skip, is_take};
 ghost use Rattle.parking_lot_core_model.specs.Machine.{machine, tokens_of, section_of, any_phase, enter_fault};
 ghost use Rattle.parking_lot_core_model.specs.Machine.{step_fault, opened, in_phase, stored, closed, taken, taking_of};
-ghost use Rattle.parking_lot_core_model.specs.Machine.{TakesInSection, Checks, Appends, Does, Makes};
+ghost use Rattle.parking_lot_core_model.specs.Machine.{TakesInSection, Checks, Appends, Does, Makes, in_section};
+ghost use Rattle.parking_lot_core_model.specs.Sound.{IsOpen, IsInside};
+ghost use Rattle.parking_lot_core_model.specs.declared.place.Section.{Section};
 
 use crate::fault::LotFault;
 use crate::lot::Lot;
@@ -19,36 +21,31 @@ use crate::place::{Phase, Section, Taking};
 use std::alloc::Allocator;
 
 impl<A: Allocator> Lot<A> {
-    /// Opens a section of a key, of a running thread. While it is open nothing else can enter one.
+    /// Opens a section of a key, of a running thread. While it is open nothing else can enter one in the key's bucket.
     pub fn enter(&mut self, thread: usize, key: usize) -> Result<(), LotFault>
-        ensures { Does (λ m. enter_fault m thread) (Makes (λ m. opened m (Some thread) key)) (machine self.old) result
+        ensures { Does (λ m. enter_fault m thread key) (Makes (λ m. opened m (Some thread) key)) (machine self.old) result
             (machine self.new) }
     {
-        if let Some(fault) = self.enter_fault(thread) {
+        if let Some(fault) = self.enter_fault(thread, key) {
             return Err(fault);
         }
         self.open(Some(thread), key);
         Ok(())
     }
 
-    /// The section that is open, where it is the thread's.
+    /// The section that the thread is in.
     pub(crate) fn section_of(&self, thread: usize) -> Option<Section>
         ensures section { result ≡ section_of (machine self.now) thread }
-        ensures runs { (s : _) → result ≡ Some s → may_join s.phase ≡ true → place_at (machine self.now).places thread
-            ≡ Some Running }
+        ensures known { (s : Section) → result ≡ Some s → IsInside (machine self.now) thread s }
     {
-        let section = self.section?;
-        if self.is_in(thread) {
-            Some(section)
-        } else {
-            None
-        }
+        let key = self.buckets.key_of(thread)?;
+        self.buckets.at(key)
     }
 
     /// Says what the validation answered, before anything else is done in the section. Where it is false only `leave`
     /// fits. Answers the same.
     pub fn check(&mut self, thread: usize, holds: bool) -> Result<bool, LotFault>
-        ensures { Does (λ m. step_fault may_check m thread) (Checks holds) (machine self.old) result
+        ensures { Does (λ m. step_fault may_check m thread) (Checks thread holds) (machine self.old) result
             (machine self.new) }
     {
         let Some(section) = self.section_of(thread) else {
@@ -57,7 +54,10 @@ impl<A: Allocator> Lot<A> {
         if !section.phase.may_check() {
             return Err(LotFault::WrongStatus);
         }
-        self.set_phase(if holds { Phase::Valid } else { Phase::Invalid });
+        self.set_phase(
+            section.key,
+            if holds { Phase::Valid } else { Phase::Invalid },
+        );
         Ok(holds)
     }
 
@@ -78,7 +78,7 @@ impl<A: Allocator> Lot<A> {
         if !section.phase.may_join() {
             return Err(LotFault::WrongStatus);
         }
-        self.set_phase(Phase::Joined);
+        self.set_phase(section.key, Phase::Joined);
         self.join(thread, section.key, park_token, timed);
         Ok(())
     }
@@ -106,8 +106,8 @@ impl<A: Allocator> Lot<A> {
 
     /// Says that the word has been stored, and gives those that the section took their token.
     pub fn store_done(&mut self, thread: usize, unpark_token: UnparkToken) -> Result<(), LotFault>
-        ensures { Does (λ m. step_fault may_store m thread) (Makes (λ m. stored m unpark_token)) (machine self.old)
-            result (machine self.new) }
+        ensures { Does (λ m. step_fault may_store m thread) (Makes (in_section (λ m key. stored m key unpark_token) thread))
+            (machine self.old) result (machine self.new) }
     {
         let Some(section) = self.section_of(thread) else {
             return Err(LotFault::WrongStatus);
@@ -115,20 +115,20 @@ impl<A: Allocator> Lot<A> {
         if !section.phase.may_store() {
             return Err(LotFault::WrongStatus);
         }
-        self.say_store(unpark_token);
+        self.say_store(section.key, unpark_token);
         Ok(())
     }
 
     /// Closes the section. Its thread runs, or waits if it was appended; those that it took have their token, and
     /// [`wake`](Lot::wake) is owed to each.
     pub fn leave(&mut self, thread: usize) -> Result<(), LotFault>
-        ensures { Does (λ m. step_fault any_phase m thread) (Makes (λ m. closed m false)) (machine self.old) result
-            (machine self.new) }
+        ensures { Does (λ m. step_fault any_phase m thread) (Makes (in_section (λ m key. closed m key false) thread))
+            (machine self.old) result (machine self.new) }
     {
-        if self.section_of(thread).is_none() {
+        let Some(section) = self.section_of(thread) else {
             return Err(LotFault::WrongStatus);
-        }
-        self.close(false);
+        };
+        self.close(section.key, false);
         Ok(())
     }
 
@@ -158,18 +158,18 @@ impl<A: Allocator> Lot<A> {
 
     /// Takes the waiter that was found, or ends the taking.
     fn take_found(&mut self, key: usize, found: Option<usize>) -> Option<Taking>
-        requires { IsSome (machine self.old).section }
-        ensures { MatchOption found ((result ≡ None) × (machine self.new ≡ in_phase (machine self.old) phase.Ended))
+        requires { IsOpen (machine self.old) key }
+        ensures { MatchOption found ((result ≡ None) × (machine self.new ≡ in_phase (machine self.old) key phase.Ended))
             (λ at. (result ≡ option_map (taking_of (machine self.old)) (slice_get ((machine self.old).queues key) at))
-            × (machine self.new ≡ taken (in_phase (machine self.old) (phase.Taking at)) key at)) }
+            × (machine self.new ≡ taken (in_phase (machine self.old) key (phase.Taking at)) key at)) }
     {
         match found {
             None => {
-                self.set_phase(Phase::Ended);
+                self.set_phase(key, Phase::Ended);
                 None
             }
             Some(nth) => {
-                self.set_phase(Phase::Taking(nth));
+                self.set_phase(key, Phase::Taking(nth));
                 let taking = self.taking(key, nth);
                 self.take_out(key, nth);
                 taking

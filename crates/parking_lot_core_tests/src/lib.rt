@@ -4,6 +4,8 @@
 #![tactic(auto)]
 
 #[cfg(test)]
+mod buckets;
+#[cfg(test)]
 mod heaps;
 #[cfg(test)]
 mod lists;

@@ -54,6 +54,8 @@ pub enum Call {
     /// The same, and counts the callbacks.
     RequeueCounting(usize, usize, RequeueOp),
     Status(usize),
+    /// How many buckets there are.
+    Buckets,
     /// Whether the threads of a key's list are these.
     IsQueue(usize, &'static [usize]),
     /// Whether the recorded resources of a thread are these.
@@ -84,7 +86,7 @@ pub type Line = (Call, Answer);
 /// Refused, since the call doesn't fit where the thread stands.
 pub const WRONG: Answer = Answer::Refused(LotFault::WrongStatus);
 
-/// Refused, since another has entered a section.
+/// Refused, since another has entered a section of the key's bucket.
 pub const BUSY: Answer = Answer::Refused(LotFault::Busy);
 
 /// What an unpark answers that took so many, moved so many, and left some or none.
@@ -286,6 +288,7 @@ fn make_call(lot: &mut Lot, marks: &mut Marks, call: Call) -> Answer {
         Call::Release(thread, key) => done(lot.release_resource(thread, key)),
         Call::AreResources(thread, keys) => are(lot.resources(thread), keys),
         Call::Status(thread) => Answer::Stands(lot.status(thread)),
+        Call::Buckets => Answer::Number(lot.buckets()),
         Call::IsQueue(key, threads) => are(lot.queue(key), threads),
         Call::Park(..) | Call::ParkTimed(..) | Call::ParkInvalid(..) => thread_call(lot, call),
         Call::Deadline(_) | Call::Resume(_) | Call::ResumeLate(_) => thread_call(lot, call),
@@ -313,7 +316,18 @@ pub fn follow(
     before: &[Line],
     script: &[Line],
 ) -> Result<(), Fail> {
-    let mut lot = Lot::new(rt.alloc(), 8, 7)?;
+    follow_of(rt, 8, threads, before, script)
+}
+
+/// The same on a lot of at most so many threads.
+pub fn follow_of(
+    rt: &(impl AllocGlobal + Abort),
+    most: usize,
+    threads: usize,
+    before: &[Line],
+    script: &[Line],
+) -> Result<(), Fail> {
+    let mut lot = Lot::new(rt.alloc(), most, 7)?;
     for _thread in 0..threads {
         lot.register()?;
     }

@@ -22,9 +22,10 @@ const ENTERED: [Line; 2] = [
 fn a_section_is_entered_once(rt: HostRuntime) -> Result<(), Fail> {
     let script = [
         (Call::Status(0), INSIDE),
-        (Call::Enter(2, 9), BUSY),
+        (Call::Enter(2, 5), BUSY),
+        (Call::Enter(2, 21), BUSY),
         (Call::Enter(0, 9), WRONG),
-        (Call::Park(2, 9), BUSY),
+        (Call::Park(2, 21), BUSY),
         (Call::UnparkAll(5, 1), BUSY),
         (Call::Retire(0), WRONG),
         (Call::Leave(0), Answer::Done),
@@ -145,7 +146,7 @@ fn a_sleeper_comes_back_and_takes_itself_out(rt: HostRuntime) -> Result<(), Fail
         (Call::Quit(1), WRONG),
         (Call::ComeBack(1, 5), Answer::Done),
         (Call::IsQueue(5, &[1, 2]), IS),
-        (Call::Enter(0, 9), BUSY),
+        (Call::Enter(0, 21), BUSY),
         (Call::ComeBack(2, 5), BUSY),
         (Call::Quit(1), Answer::Left(None)),
         (Call::Quit(1), WRONG),

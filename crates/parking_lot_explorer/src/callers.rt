@@ -39,8 +39,8 @@ pub struct Caller {
     /// Those that it hasn't begun.
     pub rest: Calls,
     pub answers: Answers,
-    /// The mutex that it owns by its calls so far. One that waits has given it up for that time.
-    pub owns: Option<usize>,
+    /// Which locks it owns as mutexes by its calls so far. One that waits has given its mutex up for that time.
+    pub owns: Three<bool>,
 }
 
 impl Caller {
@@ -50,7 +50,7 @@ impl Caller {
             open: None,
             rest: calls,
             answers: [None; 3],
-            owns: None,
+            owns: Three(false, false, false),
         }
     }
 
@@ -105,11 +105,11 @@ impl Caller {
     }
 }
 
-/// Which mutex a thread owns once that call is answered.
-fn owned_behind(asked: Option<Ask>, before: Option<usize>) -> Option<usize> {
+/// Which mutexes a thread owns once that call is answered.
+fn owned_behind(asked: Option<Ask>, before: Three<bool>) -> Three<bool> {
     match asked {
-        Some(asked) if asked.call == LockCall::Lock => Some(asked.lock),
-        Some(asked) if asked.call == LockCall::Unlock => None,
+        Some(asked) if asked.call == LockCall::Lock => before.with(asked.lock, true),
+        Some(asked) if asked.call == LockCall::Unlock => before.with(asked.lock, false),
         _ => before,
     }
 }

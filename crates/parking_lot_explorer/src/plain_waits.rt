@@ -83,14 +83,18 @@ impl PlainWait {
         }
     }
 
-    /// Whether a thread owns that mutex now.
-    fn is_owner(self, thread: usize, mutex: Option<usize>) -> bool {
-        let owns = self.callers.of(thread).owns;
-        self.stages.of(thread) == Stage::Free && owns.is_some() && owns == mutex
+    /// Whether a thread owns that mutex now: one that is in a wait has given up the one that it waits with.
+    fn is_owner(self, thread: usize, mutex: usize) -> bool {
+        let caller = self.callers.of(thread);
+        let is_away = match caller.open {
+            Some(open) => open.mutex() == Some(mutex),
+            None => false,
+        };
+        caller.owns.of(mutex) && !is_away
     }
 
     /// Whether nobody owns that mutex.
-    fn is_free(self, mutex: Option<usize>) -> bool {
+    fn is_free(self, mutex: usize) -> bool {
         !self.is_owner(0, mutex) && !self.is_owner(1, mutex) && !self.is_owner(2, mutex)
     }
 
@@ -149,7 +153,7 @@ impl PlainWait {
     fn called(self, thread: usize, asked: Ask) -> Option<PlainWait> {
         let waiting = self.order.count();
         match asked.call {
-            LockCall::Lock if self.is_free(Some(asked.lock)) => {
+            LockCall::Lock if self.is_free(asked.lock) => {
                 Some(self.answered(thread, LockAnswer::Owned))
             }
             LockCall::Unlock => Some(self.answered(thread, LockAnswer::Released)),
@@ -168,7 +172,8 @@ impl PlainWait {
 
     /// Once a thread that was in a wait has its mutex again, if it may.
     fn back(self, thread: usize, answer: LockAnswer) -> Option<PlainWait> {
-        if self.is_free(self.callers.of(thread).owns) {
+        let mutex = self.callers.of(thread).open?.mutex()?;
+        if self.is_free(mutex) {
             Some(self.answered(thread, answer))
         } else {
             None

@@ -108,9 +108,9 @@ fn place_of(place: Place, counts: bool) -> Place {
     match place {
         Place::Running => Place::Running,
         Place::Waiting(key, sleep) => Place::Waiting(key, sleep_of(sleep, counts)),
-        Place::Held(sleep) => Place::Held(sleep_of(sleep, counts)),
-        Place::Taken(token, sleep, is_woken) => {
-            Place::Taken(token, sleep_of(sleep, counts), is_woken)
+        Place::Held(key, sleep) => Place::Held(key, sleep_of(sleep, counts)),
+        Place::Taken(token, key, sleep, is_woken) => {
+            Place::Taken(token, key, sleep_of(sleep, counts), is_woken)
         }
     }
 }
@@ -251,7 +251,7 @@ pub(crate) struct Wake {
 
 fn mark_of(place: Option<Place>) -> Option<u64> {
     match place {
-        Some(Place::Waiting(_, sleep) | Place::Held(sleep) | Place::Taken(_, sleep, _)) => {
+        Some(Place::Waiting(_, sleep) | Place::Held(_, sleep) | Place::Taken(_, _, sleep, _)) => {
             Some(sleep.mark)
         }
         Some(Place::Running) | None => None,

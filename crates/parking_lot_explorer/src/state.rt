@@ -64,6 +64,8 @@ pub struct WorldState {
     inside: Option<usize>,
     /// Whether a section of a lock or of a condition variable is open.
     pub is_open: bool,
+    /// How many sections of locks are open. The keys of three locks are of different buckets.
+    pub open_sections: usize,
     pub locks: [LockShown; 3],
     pub debts: Vec<usize>,
 }
@@ -77,6 +79,12 @@ fn wakes_of(world: &World, counts: bool) -> Three<Option<Wake>> {
             .map(|wakeup| Wake::of(world, *wakeup, counts))
     };
     Three(at(0), at(1), at(2))
+}
+
+/// How many of the keys of three locks have a section that is open.
+fn open_sections(world: &World) -> usize {
+    let lot = world.waits().rows().lot();
+    (0..6).filter(|key| lot.is_entered(*key)).count()
 }
 
 fn locks_of(alloc: Global, world: &World) -> Result<[LockShown; 3], SizeFault> {
@@ -97,6 +105,7 @@ impl WorldState {
             wakes: wakes_of(world, counts),
             inside: world.onces().inside(),
             is_open: world.waits().is_open(),
+            open_sections: open_sections(world),
             locks: locks_of(alloc, world)?,
             debts: world.debts()?,
         })

@@ -40,7 +40,7 @@ after_most : (w : LockMode) → comes_after Unseen w ≤ 31
 after_most (LockMode.Shared recursive) = omega arith
 after_most LockMode.Exclusive = omega arith
 
-vain_most : (w : LockMode) → vain w ≤ 55
+vain_most : (w : LockMode) → vain w ≤ 56
 vain_most (LockMode.Shared recursive) = omega arith
 vain_most LockMode.Exclusive = omega arith
 

@@ -10,10 +10,12 @@ use Rattle.parking_lot_core_model.specs.declared.parking.ParkToken.{ParkToken}
 use Rattle.parking_lot_core_model.specs.declared.place.Place.{Place}
 use Rattle.parking_lot_core_model.specs.declared.place.Section.{Section}
 use Rattle.parking_lot_core_model.specs.declared.place.Waiter.{Waiter}
+use Rattle.parking_lot_core_model.specs.Machine.{Machine}
 use Rattle.parking_lot_core_model.specs.Places.{place_at, mark_of}
 use Rattle.parking_lot_core_model.specs.Sound.{Sound}
 use Rattle.parking_lot_core_model.proofs.Numbers.{flag, slice_get-set_other, count_by-at, count_by-remove}
-use Rattle.parking_lot_core_model.proofs.Sounds.{none≢some, by_eqb}
+use Rattle.parking_lot_core_model.proofs.Kept.{by_eqb}
+use Rattle.parking_lot_core_model.proofs.Entering.{none≢some}
 use Rattle.parking_lot_machine_calls.specs.declared.seat.WakeResult.{WakeResult}
 use Rattle.parking_lot_machine_calls.specs.declared.seat.QueuePosition.{QueuePosition}
 use Rattle.parking_lot_machine_calls.specs.declared.open_call.Call.{Call}
@@ -22,7 +24,8 @@ use Rattle.parking_lot_machine.specs.Rows.{State, call_at, is_by, taken_by}
 use Rattle.parking_lot_machine_calls.specs.Stances.{Looks, TurnsBack, Joins, Joined, Takes, Stores, Tells, Stance, Out}
 use Rattle.parking_lot_machine_calls.specs.Stances.{In, Asleep, stance, taken_count}
 use Rattle.parking_lot_machine_calls.specs.CallActs.{settled_spot, settled}
-use Rattle.parking_lot_machine.specs.RowFits.{Seated, Awaits, IsCounted, IsInside, IsTaken, IsOwed, WakesSome, LotFits}
+use Rattle.parking_lot_machine.specs.RowFits.{SeatedIn, Awaits, IsCounted, IsInside, IsTaken, IsOwed, WakesSome, LotFits}
+use Rattle.parking_lot_machine.specs.RowFits.{TakersAreOut}
 
 -- CALLS, BY THREAD
 
@@ -352,6 +355,13 @@ tallied_on threads n (Some c) (Some d) h k = let e : taken_count d.core ≡ take
     still e (inl j) = omega (arith, k.all j, e)
     still e (inr z) = omega (arith, k.most, z, e)
 
+-- who has told others is in no section still
+pub outs_still : (s : State) (m : Machine) → LotFits s
+    → ((v : ℕ) → place_at m.places v ≡ place_at s.lot.places v)
+    → ((b : ℕ) → s.lot.inside b ≡ None → m.inside b ≡ None) → TakersAreOut s m
+outs_still s m h places inside v k c token by said x key sleep at asleep off place =
+    inside by (h.outside v k c token by said x key sleep at asleep off (sym (places v) ∙ place))
+
 module _ (s u : State) (h : LotFits s) (carries : (v : ℕ) → Carries (call_at s v) (call_at u v)) where
   pub waits_carried : (j k n : ℕ) (w : Waiter) → k < 2 → slice_get (s.lot.queues (2 * j + k)) n ≡ Some w
       → (c : Call) × (call_at u w.thread ≡ Some c) × (c.lock ≡ j) × (c.spot ≡ QueuePosition.Listed)
@@ -391,11 +401,12 @@ module _ (s u : State) (h : LotFits s) (carries : (v : ℕ) → Carries (call_at
       × Awaits k w.token (stance c.core))
       → ((v k : ℕ) (token : ParkToken) (c : Call) → call_at s v ≡ Some c → stance c.core ≡ Asleep k token
       → option_map_or mark_of (place_at u.lot.places v) 0 ≡ option_map_or mark_of (place_at s.lot.places v) 0)
-      → ((t : ℕ) → t < length u.calls → Seated t (call_at u t) (place_at u.lot.places t) u.lot.section)
-      → ((section : Section) → u.lot.section ≡ Some section → (t : ℕ) × (section.thread ≡ Some t)
+      → TakersAreOut s u.lot
+      → ((t : ℕ) → t < length u.calls → SeatedIn u.lot t (call_at u t))
+      → ((b : ℕ) (section : Section) → u.lot.sections b ≡ Some section → (t : ℕ) × (section.thread ≡ Some t)
       × (t < length u.calls))
       → LotFits u
-  carried_by threads sound wakes waits marks seated opened = record {
+  carried_by threads sound wakes waits marks outs seated opened = record {
     sound = sound;
     seated = seated;
     opened = opened;
@@ -403,6 +414,9 @@ module _ (s u : State) (h : LotFits s) (carries : (v : ℕ) → Carries (call_at
     owed = λ t d key token by said is asleep at.
         let old = (carries t).slept key token by said d is asleep at in
         subst (λ (ws : List Wakeup). IsOwed ws by t) (sym wakes) (h.owed t old.0 key token by old.3 old.1 old.2 old.4);
+    outside = λ v k c token by said x key sleep at asleep off place.
+        let old = (carries v).slept k token by said c at asleep off in
+        outs v k old.0 token by old.3 x key sleep old.1 old.2 old.4 place;
     woken = λ n e at.
         let here = ap (λ (ws : List Wakeup). slice_get ws n) (sym wakes) ∙ at in
         let old = h.woken n e here in
@@ -426,11 +440,12 @@ module _ (s u : State) (h : LotFits s) (carries : (v : ℕ) → Carries (call_at
   pub carried : length u.calls ≡ length s.calls → Sound u.lot → u.wakes ≡ s.wakes → u.lot.queues ≡ s.lot.queues
       → ((v k : ℕ) (token : ParkToken) (c : Call) → call_at s v ≡ Some c → stance c.core ≡ Asleep k token
       → option_map_or mark_of (place_at u.lot.places v) 0 ≡ option_map_or mark_of (place_at s.lot.places v) 0)
-      → ((t : ℕ) → t < length u.calls → Seated t (call_at u t) (place_at u.lot.places t) u.lot.section)
-      → ((section : Section) → u.lot.section ≡ Some section → (t : ℕ) × (section.thread ≡ Some t)
+      → TakersAreOut s u.lot
+      → ((t : ℕ) → t < length u.calls → SeatedIn u.lot t (call_at u t))
+      → ((b : ℕ) (section : Section) → u.lot.sections b ≡ Some section → (t : ℕ) × (section.thread ≡ Some t)
       × (t < length u.calls))
       → LotFits u
-  carried threads sound wakes queues marks seated opened =
+  carried threads sound wakes queues marks outs seated opened =
       carried_by threads sound wakes
       (λ j k n w two at. waits_carried j k n w two
-      (ap (λ (qs : ℕ → List Waiter). slice_get (qs (2 * j + k)) n) (sym queues) ∙ at)) marks seated opened
+      (ap (λ (qs : ℕ → List Waiter). slice_get (qs (2 * j + k)) n) (sym queues) ∙ at)) marks outs seated opened

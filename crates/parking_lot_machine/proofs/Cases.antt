@@ -87,7 +87,7 @@ module _ (s u : State) where
         (passes_same (recursive_in s.kinds) by j passing passes (lock_at s j) (h.rules.sound.sound j) f.0.allowed))
         (subst (IsCaseAt (recursive_in s.kinds j) t (lock_at (unowed s t) j)) (sym f.1.here)
         (after_is_case (recursive_in s.kinds) t j step (lock_at (unowed s t) j)
-        ((made_sound s (unowed s t) by j passing f.0 h.rules.sound).sound j) f.1.allowed));
+        ((made_sound s (unowed s t) by j passing refl f.0 h.rules.sound).sound j) f.1.allowed));
     elsewhere = λ i ne. f.1.elsewhere i ne ∙ f.0.elsewhere i ne;
   }
 

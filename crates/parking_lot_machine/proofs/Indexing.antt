@@ -2,7 +2,7 @@
 use Rattle.std.proofs.Common.{◌≡◌, ◌≤◌, ◌<◌, ℕ, ◌+◌, ◌⊎◌, inl, inr, List, [], ◌∷◌, ◌++◌, length, remove, Some, Bool}
 use Rattle.std.proofs.Common.{true, false, not, cond, slice_get, slice_set, refl, sym, ap, ◌∙◌, arith, zero, suc}
 use Rattle.std.specs.List.{position_or_len}
-use Rattle.parking_lot_core_model.proofs.Sounds.{none≢some}
+use Rattle.parking_lot_core_model.proofs.Entering.{none≢some}
 
 -- two that are left stood apart
 pub apart_before : (i n m a b : ℕ) → (((n < i) × (a ≡ n)) ⊎ ((i ≤ n) × (a ≡ suc n)))

@@ -1,6 +1,6 @@
 -- The acts of a call whose moment has passed: each keeps the machine fit, and is a step of the rules.
-use Rattle.std.proofs.Common.{◌≡◌, ℕ, ◌+◌, ◌*◌, ◌≤◌, ◌≢◌, inl, inr, true, List, length, Option, Some, None, slice_get}
-use Rattle.std.proofs.Common.{slice_set, sum_by, refl, sym, ap, ◌∙◌, subst, arith}
+use Rattle.std.proofs.Common.{◌≡◌, ℕ, ◌+◌, ◌*◌, ◌<◌, ◌≤◌, ◌≢◌, inl, inr, Bool, true, false, List, length, Option, Some, None, slice_get}
+use Rattle.std.proofs.Common.{slice_set, sum_by, is_some, refl, sym, ap, ◌∙◌, subst, arith}
 use Rattle.std.specs.Option.{option_and_then}
 use Rattle.std.proofs.lemmas.Bool.{cases_eq}
 use Rattle.std.proofs.lemmas.List.{length-set}
@@ -28,7 +28,7 @@ use Rattle.parking_lot_machine_calls.specs.declared.open_call.Call.{Call}
 use Rattle.parking_lot_machine.specs.ActLaws.{Acts}
 use Rattle.parking_lot_machine_calls.specs.Kinds.{AsMutex, manner_of, recursive_in, AsRw}
 use Rattle.parking_lot_machine.specs.LateActs.{expired, others_left, quitted, returned, found}
-use Rattle.parking_lot_machine_calls.specs.LateCalls.{comes_late, is_back, is_pending, is_sleeping, late_comes, late_of}
+use Rattle.parking_lot_machine_calls.specs.LateCalls.{comes_late, is_back, is_pending, is_sleeping, late_comes, late_key, late_of}
 use Rattle.parking_lot_machine_calls.specs.LateCalls.{late_rw_comes, sleeps_in_time, found_as, is_handed}
 use Rattle.parking_lot_machine.specs.LateLaws.{Expires, LateActsAreSteps, expire_step}
 use Rattle.parking_lot_machine_calls.specs.LateRoles.{expiring as expiring_step, expiring_taken}
@@ -39,7 +39,7 @@ use Rattle.parking_lot_machine_calls.specs.CallActs.{hears}
 use Rattle.parking_lot_machine.specs.RowFits.{FitsTogether, IsPrepared, LotFits, RulesFit, sleeper_prepared}
 use Rattle.parking_lot_machine_calls.specs.CallKinds.{IsOfKind}
 use Rattle.parking_lot_machine.specs.RowSteps.{IsMade, IsMoveOf}
-use Rattle.parking_lot_machine.specs.Rows.{State, call_at, inside, mutex_at, queue_at, rw_lock_at, taken_by, word_at}
+use Rattle.parking_lot_machine.specs.Rows.{State, call_at, mutex_at, queue_at, rw_lock_at, taken_by, word_at}
 use Rattle.parking_lot_machine_calls.specs.CallRoles.{first_of_all, late_role, mutex_spot, rw_spot, mark_of}
 use Rattle.parking_lot_machine_calls.specs.Stances.{Asleep, In, Joined, Takes, core_next, pending_from, sleeper_asleep}
 use Rattle.parking_lot_machine_calls.specs.Stances.{stance}
@@ -53,12 +53,21 @@ use Rattle.parking_lot_machine.proofs.LateRules.{expire_crosses, expire_writes, 
 use Rattle.parking_lot_machine.proofs.LateRules.{reenter_crosses, reenter_writes, may_expire_off, expire_off_writes}
 use Rattle.parking_lot_machine.proofs.LateRules.{expire_off_crosses}
 use Rattle.parking_lot_machine.proofs.LateLots.{expired_fits, returned_fits}
-use Rattle.parking_lot_machine.proofs.Making.{Crossed, made, made_sound}
+use Rattle.parking_lot_core_model.specs.Lists.{updated}
+use Rattle.parking_lot_core_model.specs.Machine.{Machine, fresh_section}
+use Rattle.parking_lot_core_model.specs.declared.place.Phase.{Phase}
+use Rattle.parking_lot_core_model.proofs.Entering.{phase_within}
+use Rattle.parking_lot_machine_calls.specs.Stances.{Out}
+use Rattle.parking_lot_machine.specs.Rows.{bucket, open_at}
+use Rattle.parking_lot_machine.proofs.Crossings.{comes_at}
+use Rattle.parking_lot_machine.proofs.LotActs.{same_section}
+use Rattle.parking_lot_machine.proofs.Making.{Crossed, entries, made, made_sound}
+use Rattle.parking_lot_machine.proofs.OwnMoves.{AfterAct}
 use Rattle.parking_lot_machine.proofs.Meeting.{in_range, meets, plays, plays_late}
 use Rattle.parking_lot_machine.proofs.MutexMoving.{total_of_nobody}
 use Rattle.parking_lot_machine.proofs.OwnActs.{nobody_first, nobody_in_mutex, nobody_second}
 use Rattle.parking_lot_machine.proofs.Owning.{OwnAct}
-use Rattle.parking_lot_machine.proofs.Passing.{own_passes, passes_after}
+use Rattle.parking_lot_machine.proofs.Passing.{around_at, own_passes, passes_after}
 use Rattle.parking_lot_machine.proofs.Paying.{call-within, pays}
 use Rattle.parking_lot_machine.proofs.RwCalls.{call_role}
 use Rattle.parking_lot_machine.proofs.Ruling.{CallFits, Fitted, call_fits, rules_after, rules_own}
@@ -140,7 +149,7 @@ module _ (s : State) (t : ℕ) (c : Call) (asleep : sleeps_in_time c.core ≡ tr
         → K.any (K.lock (word_at s c.lock)
         (slice_set (roles_at K s c.lock) t (K.plays c.others c.spot (taken_by s.wakes t) q))
         (queue_at s (2 * c.lock)) (queue_at s (2 * c.lock + 1))) ≡ any_after t step (K.any (shown K s c.lock))
-        → Crossed (any_crossing step) t (inside s) (inside s)
+        → Crossed (any_crossing step) t (entries s c.lock) (entries s c.lock)
         → IsMade c.lock t step s late_state
     late_made step allowed leads crossed = made K s late_state t c.lock late_there late_elsewhere kind_is step allowed
         (ap K.any late_after ∙ leads) crossed
@@ -168,7 +177,8 @@ module _ (s : State) (t : ℕ) (c : Call) (asleep : sleeps_in_time c.core ≡ tr
             tt,
           )
           (ap (λ p. Mx (record (mutex_at s c.lock)
-          { roles = slice_set (mutex_at s c.lock).roles t (late_role (mutex_spot p) LatePhase.Expires) })) f) refl
+          { roles = slice_set (mutex_at s c.lock).roles t (late_role (mutex_spot p) LatePhase.Expires) })) f)
+          (tt, λ b. refl)
       go (QueuePosition.Off by said) f =
           late_made of_mutexes (CallLate LatePhase.Expires) (ap late_of e) kind_is
           (MxStep (mutex.Alone (mutex.ExpireTaken by (mark_of said)))) (
@@ -177,7 +187,8 @@ module _ (s : State) (t : ℕ) (c : Call) (asleep : sleeps_in_time c.core ≡ tr
             tt,
           )
           (ap (λ p. Mx (record (mutex_at s c.lock)
-          { roles = slice_set (mutex_at s c.lock).roles t (late_role (mutex_spot p) LatePhase.Expires) })) f) refl
+          { roles = slice_set (mutex_at s c.lock).roles t (late_role (mutex_spot p) LatePhase.Expires) })) f)
+          (tt, λ b. refl)
   expiring_mutex q y e is at f = absurd cc
 
   module _ (k : RwSleeper) (e : c.core ≡ rw_call (as_call k))
@@ -218,7 +229,7 @@ module _ (s : State) (t : ℕ) (c : Call) (asleep : sleeps_in_time c.core ≡ tr
         (rw_late QueuePosition.Listed f
         ∙ ap (λ r. Rw (record (rw_lock_at s c.lock) { roles = slice_set (rw_lock_at s c.lock).roles t r })) role.1
         ∙ expire_writes (pending_from k) (sleeper_wants k) (rw_lock_at s c.lock) t)
-        (expire_crosses (pending_from k) (sleeper_wants k) t (inside s))
+        (expire_crosses (pending_from k) (sleeper_wants k) t (entries s c.lock))
 
     expiring_off : (by : ℕ) (said : WakeResult) → c.spot ≡ QueuePosition.Off by said
         → IsMade c.lock t (expiring_taken k by (mark_of said)) s late_state
@@ -233,7 +244,7 @@ module _ (s : State) (t : ℕ) (c : Call) (asleep : sleeps_in_time c.core ≡ tr
         (rw_late (QueuePosition.Off by said) f
         ∙ ap (λ r. Rw (record (rw_lock_at s c.lock) { roles = slice_set (rw_lock_at s c.lock).roles t r })) role.1
         ∙ expire_off_writes (pending_from k) (sleeper_wants k) by (mark_of said) (rw_lock_at s c.lock) t)
-        (expire_off_crosses (pending_from k) (sleeper_wants k) by (mark_of said) t (inside s))
+        (expire_off_crosses (pending_from k) (sleeper_wants k) by (mark_of said) t (entries s c.lock))
 
   expiring : IsMade c.lock t (expire_step c.core c.spot) s late_state
   expiring = go c.core c.spot refl refl asleep
@@ -270,7 +281,7 @@ module _ (s : State) (t : ℕ) (c : Call) (asleep : sleeps_in_time c.core ≡ tr
     few = h.rules.few;
     elsewhere = λ i ne. refl;
     bits = h.rules.bits c.lock;
-    sound = made_sound s late_state t c.lock (expire_step c.core c.spot) expiring h.rules.sound;
+    sound = made_sound s late_state t c.lock (expire_step c.core c.spot) refl expiring h.rules.sound;
   })
 
   -- how many steps it adds
@@ -309,7 +320,7 @@ module _ (s : State) (t : ℕ) (c : Call) (asleep : sleeps_in_time c.core ≡ tr
   expires = record {
     fits = record {
       lots = expired_lots;
-      passes = passes_after s late_state t expired_lots h.passes (inr (inr (refl, λ key. refl)))
+      passes = passes_after s late_state t expired_lots h.passes (λ v k o ne at whose. (at, refl))
           (λ v d k ne at is. (d, sym (late_others v ne) ∙ at, refl, refl))
           (λ d k o at is sec. absurd
           (lies_takes (sym lapse.lies_on ∙ ap (λ (y : Call). stance y.core) (same_call (sym late_here ∙ at))
@@ -324,7 +335,7 @@ module _ (s : State) (t : ℕ) (c : Call) (asleep : sleeps_in_time c.core ≡ tr
 -- IT COMES BACK
 
 module _ (s : State) (t : ℕ) (c : Call) (late : comes_late c.core ≡ true) (listed : c.spot ≡ QueuePosition.Listed)
-    (free : s.lot.section ≡ None) (sound : lot.Sound (returned s t c).lot) (h : FitsTogether s)
+    (free : open_at s (late_key c) ≡ None) (sound : lot.Sound (returned s t c).lot) (h : FitsTogether s)
     (here : call_at s t ≡ Some c) where
   abbrev back_state : State
   back_state = returned s t c
@@ -343,14 +354,33 @@ module _ (s : State) (t : ℕ) (c : Call) (late : comes_late c.core ≡ true) (l
     word = sym (ap (λ a. word_after a seen.Entered (word_at s c.lock)) come.act);
     words = λ i ne. refl;
     queues = λ i k ne b. refl;
+    buckets = refl;
     listed = λ k token e. listed;
   }
 
   back_of : (x : Core) → c.core ≡ x → OwnAct s back_state t c seen.Entered (core_next x seen.Entered) c.spot
   back_of x e = subst (λ (y : Core). OwnAct s back_state t c seen.Entered (core_next y seen.Entered) c.spot) e own_back
 
-  nobody : inside s ≡ None
-  nobody = ap (option_and_then (λ (x : Section). x.thread)) free
+  abbrev which : ℕ
+  which = bit (is_pending c.core)
+
+  abbrev back_section : Section
+  back_section = record (fresh_section (Some t) (late_key c)) { phase = Phase.Joined }
+
+  back_secs : (b : ℕ) → back_state.lot.sections b ≡ updated s.lot.sections (bucket s (late_key c)) (Some back_section) b
+  back_secs b = ap (λ (m : Machine). m.sections b)
+      (phase_within s.lot (fresh_section (Some t) (late_key c)) Phase.Joined)
+
+  back_crosses : (b : Bool) → is_pending c.core ≡ b
+      → AfterAct Out (Act.Enter (bit b)) t (entries s c.lock) (entries back_state c.lock)
+  back_crosses b e =
+      subst (λ (x : Bool). AfterAct Out (Act.Enter (bit x)) t (entries s c.lock) (entries back_state c.lock)) e
+      (comes_at s back_state t c.lock (Some back_section) Out which (small (is_pending c.core))
+      (ap (option_and_then (λ (x : Section). x.thread)) free) refl back_secs)
+    where
+      small : (x : Bool) → bit x < 2
+      small true = omega arith
+      small false = omega arith
 
   back_mutex : (p : LatePhase) → c.core ≡ Core.Late p → late_comes p ≡ true
       → IsMoveOf (Core.Late p) c.others (taken_by s.wakes t) seen.Entered c.lock t s back_state
@@ -360,8 +390,9 @@ module _ (s : State) (t : ℕ) (c : Call) (late : comes_late c.core ≡ true) (l
       (back_of (Core.Late LatePhase.Expires) e) kind_is (MxStep (mutex.Alone mutex.Reenter)) refl (
         (plays_late s h t c LatePhase.Expires e here).here
             ∙ ap (λ at. Some (late_role (mutex_spot at) LatePhase.Expires)) listed,
-        total_of_nobody (mutex_at s c.lock).roles (nobody_in_mutex s h nobody c.lock kind_is),
-      ) refl (nobody, refl)
+        total_of_nobody (mutex_at s c.lock).roles
+            (nobody_in_mutex s h c.lock (back_crosses false (ap is_pending e)).0 kind_is),
+      ) refl (back_crosses false (ap is_pending e))
   back_mutex p e is = absurd cc
 
   back_rw : (p : LateRwPhase) → c.core ≡ Core.LateRw p → late_rw_comes p ≡ true
@@ -379,11 +410,14 @@ module _ (s : State) (t : ℕ) (c : Call) (late : comes_late c.core ≡ true) (l
       (back_of (Core.LateRw (LateRwPhase.Expires k)) e) kind_is (reentering k) refl (
         mine ∙ ap Some role.2,
         may_reenter_so (recursive_in s.kinds c.lock) (pending_from k) (sleeper_wants k)
-            (rw_lock_at s c.lock) (nobody_first s h nobody c.lock kind_is) (nobody_second s h nobody c.lock kind_is),
+            (rw_lock_at s c.lock)
+            (λ none. nobody_first s h c.lock (back_crosses false (ap is_pending e ∙ none)).0 kind_is)
+            (λ some. nobody_second s h c.lock (back_crosses true (ap is_pending e ∙ some)).0 kind_is),
       )
       (ap (λ r. Rw (record (rw_lock_at s c.lock) { roles = slice_set (rw_lock_at s c.lock).roles t r })) role.3
       ∙ reenter_writes (pending_from k) (sleeper_wants k) (rw_lock_at s c.lock) t)
-      (reenter_crosses (pending_from k) (sleeper_wants k) t (inside s) nobody)
+      (reenter_crosses (pending_from k) (sleeper_wants k) t (entries s c.lock) (entries back_state c.lock) Out
+      (back_crosses (is_some (pending_from k)) (ap is_pending e)))
   back_rw p e is = absurd cc
 
   back_fitted : Fitted s back_state t c seen.Entered c.core
@@ -409,7 +443,9 @@ module _ (s : State) (t : ℕ) (c : Call) (late : comes_late c.core ≡ true) (l
           fits = record {
             lots = lots;
             passes = own_passes s back_state t c seen.Entered (core_next c.core seen.Entered) c.spot own_back lots
-                h.passes (inr (inl refl)) (λ k o e. absurd (joined_takes (sym come.back ∙ e)));
+                h.passes (around_at s back_state t (late_key c) (Some back_section) back_secs refl
+                (λ x e. ap (λ (y : Section). y.thread) (sym (same_section e))) (λ k e. refl))
+                (λ k o e at. absurd (joined_takes (sym come.back ∙ e)));
             wakes = wakes_own s back_state t c seen.Entered (core_next c.core seen.Entered) own_back h.wakes;
             rules = both.0;
           };

@@ -13,27 +13,32 @@ use Rattle.parking_lot_core_model.specs.declared.place.Place.TheVariants.{Runnin
 use Rattle.parking_lot_core_model.specs.declared.place.Section.{Section}
 use Rattle.parking_lot_core_model.specs.declared.place.Sleep.{Sleep}
 use Rattle.parking_lot_core_model.specs.declared.place.Waiter.{Waiter}
+use Rattle.parking_lot_core_model.specs.Lists.{updated}
 use Rattle.parking_lot_core_model.specs.Machine.{Machine}
+use Rattle.parking_lot_core_model.specs.Machine as core_lot
 use Rattle.parking_lot_core_model.specs.Places.{place_at}
 use Rattle.parking_lot_core_model.specs.Sound.{Sound}
 use Rattle.parking_lot_core_model.proofs.Numbers.{flag}
-use Rattle.parking_lot_core_model.proofs.Sounds.{none≢some, by_eqb, place_at-set_same, place_at-set_other}
+use Rattle.parking_lot_core_model.proofs.Entering.{none≢some}
+use Rattle.parking_lot_core_model.proofs.Kept.{by_eqb, updated_at, updated_other}
+use Rattle.parking_lot_core_model.proofs.Sounds.{place_at-set_same, place_at-set_other}
 use Rattle.parking_lot_machine_calls.specs.declared.seat.WakeResult.{WakeResult}
 use Rattle.parking_lot_machine_calls.specs.declared.seat.QueuePosition.{QueuePosition}
 use Rattle.parking_lot_machine_calls.specs.declared.open_call.Call.{Call}
 use Rattle.parking_lot_machine_calls.specs.declared.seat.Wakeup.{Wakeup}
-use Rattle.parking_lot_machine.specs.Rows.{State, call_at, is_for, taken_by}
+use Rattle.parking_lot_machine.specs.Rows.{State, bucket, call_at, is_for, open_at, taken_by}
 use Rattle.parking_lot_machine_calls.specs.Stances.{Doing, In, Out, Asleep, Tells, Stance, sign, stance, taken_count}
 use Rattle.parking_lot_machine.specs.LateActs.{unowed}
 use Rattle.parking_lot_machine.specs.RowActs.{with_call, with_lot}
-use Rattle.parking_lot_machine_calls.specs.CallActs.{told_of}
-use Rattle.parking_lot_machine.specs.RowFits.{Awaits, IsAt, IsCounted, IsInside, IsOwed, IsTaken, LotFits, Seated}
-use Rattle.parking_lot_machine.specs.RowFits.{WakesSome}
+use Rattle.parking_lot_machine_calls.specs.CallActs.{key_of, told_of}
+use Rattle.parking_lot_machine.specs.RowFits.{Awaits, IsAt, IsCounted, IsInside, IsOwed, IsTaken, LotFits}
+use Rattle.parking_lot_machine.specs.RowFits.{PlaceWhile, SeatedIn, WakesSome}
 use Rattle.parking_lot_machine.proofs.Carrying.{Tallied, call_within, dropped, lock_kept, no_length, same_call}
 use Rattle.parking_lot_machine.proofs.Carrying.{still_taken, tallied}
 use Rattle.parking_lot_machine.proofs.Indexing.{apart_before, get_remove, kept_remove, not_removed}
-use Rattle.parking_lot_machine.proofs.LotActs.{changed_here, changed_there, lies_still, outside_of, same_length}
-use Rattle.parking_lot_machine.proofs.LotActs.{same_section, seat_of, seated_apart, seats_one, sits}
+use Rattle.parking_lot_machine.proofs.LotActs.{changed_here, changed_there, held_still, lot_with_at, no_section}
+use Rattle.parking_lot_machine.proofs.LotActs.{nobody_off, open_which, same_length, same_section, seat_of, seat_there}
+use Rattle.parking_lot_machine.proofs.LotActs.{seats_one, sits}
 use Rattle.parking_lot_machine_calls.proofs.Stancing.{sleepers_wake}
 
 asleep_in : {k j : ℕ} {how : Doing} {token : ParkToken} → Asleep j token ≡ In k how → ⊥
@@ -48,12 +53,12 @@ same_wakeup e = cc
 same_taker : {a b : ℕ} {x y : WakeResult} → QueuePosition.Off a x ≡ QueuePosition.Off b y → a ≡ b
 same_taker e = cc
 
--- where no section is open, who was taken was told
-pub told_there : (by : ℕ) (said : WakeResult) (place : Option Place) (sec : Option Section) (key : ℕ) → sec ≡ None
-    → IsAt (QueuePosition.Off by said) place sec key
-    → (token : UnparkToken) × (sleep : Sleep) × (place ≡ Some (Taken token sleep false)) × (said ≡ told_of token)
-told_there by said place sec key free (sleep, late, inl held) = absurd (none≢some (sym free ∙ held.2))
-told_there by said place sec key free (sleep, late, inr told) = (told.0, sleep, told.1, told.2)
+-- where no section is open in the bucket, who was taken was told
+pub told_there : (by : ℕ) (said : WakeResult) (place : Option Place) (secs : ℕ → Option Section) (key : ℕ)
+    → secs key ≡ None → IsAt (QueuePosition.Off by said) place secs key
+    → (token : UnparkToken) × (sleep : Sleep) × (place ≡ Some (Taken token key sleep false)) × (said ≡ told_of token)
+told_there by said place secs key free (sleep, late, inl held) = absurd (none≢some (sym free ∙ held.2))
+told_there by said place secs key free (sleep, late, inr told) = (told.0, sleep, told.1, told.2)
 
 -- the first of a list that is for a thread, where one is
 pub first_for : (t : ℕ) (ws : List Wakeup) (n : ℕ) (e : Wakeup) → slice_get ws n ≡ Some e → e.thread ≡ t → (f : Wakeup)
@@ -113,10 +118,12 @@ owing s t c key park by said h here from off =
 module _ (s : State) (t : ℕ) (c d : Call) (key : ℕ) (park : ParkToken) (by : ℕ) (said : WakeResult) (h : LotFits s)
     (here : call_at s t ≡ Some c) (from : stance c.core ≡ Asleep key park) (off : c.spot ≡ QueuePosition.Off by said)
     (to : stance d.core ≡ In key (Tells (sign false))) (lock : d.lock ≡ c.lock) (listed : d.spot ≡ QueuePosition.Listed)
-    (none : taken_count d.core ≡ 0) (some : WakesSome d.core) (free : s.lot.section ≡ None)
+    (none : taken_count d.core ≡ 0) (some : WakesSome d.core) (free : open_at s (key_of c key) ≡ None)
     (out : Machine) (sound : Sound out) (queues : out.queues ≡ s.lot.queues)
     (places : out.places ≡ slice_set s.lot.places t (Some Running))
-    (o' : Section) (is : out.section ≡ Some o') (whose : o'.thread ≡ Some t) (at_key : o'.key ≡ 2 * c.lock + key)
+    (o' : Section) (whose : o'.thread ≡ Some t) (at_key : o'.key ≡ 2 * c.lock + key)
+    (as_lot : out ≡ lot_with_at s (key_of c key) out.sleeps out.queues out.places (Some o')
+    (updated s.lot.inside t (Some (key_of c key))))
     (stored : o'.phase ≡ Phase.Stored) (said_so : o'.token ≡ sign false) where
   abbrev u : State
   u = with_lot (with_call (unowed s t) t d) out
@@ -137,15 +144,22 @@ module _ (s : State) (t : ℕ) (c d : Call) (key : ℕ) (park : ParkToken) (by :
   apart v e = changed_there s t h low (Some d) out v e
 
   -- it was told, and runs from here on
-  pub was_told : (token : UnparkToken) × (sleep : Sleep) × (place_at s.lot.places t ≡ Some (Taken token sleep false))
-      × (said ≡ told_of token)
-  was_told = told_there by said (place_at s.lot.places t) s.lot.section (2 * c.lock + key) free
-      (subst (λ (a : QueuePosition). IsAt a (place_at s.lot.places t) s.lot.section (2 * c.lock + key)) off
+  pub was_told : (token : UnparkToken) × (sleep : Sleep)
+      × (place_at s.lot.places t ≡ Some (Taken token (key_of c key) sleep false)) × (said ≡ told_of token)
+  was_told = told_there by said (place_at s.lot.places t) (open_at s) (2 * c.lock + key) free
+      (subst (λ (a : QueuePosition). IsAt a (place_at s.lot.places t) (open_at s) (2 * c.lock + key)) off
       (seat_of s h t c (Asleep key park) here from).0)
 
+  -- it was in no section
+  was_out : s.lot.inside t ≡ None
+  was_out = (seat_of s h t c (Asleep key park) here from).1
+
+  none_its : (x : Section) → None ≡ Some x → x.thread ≡ Some t
+  none_its x e = absurd (none≢some e)
+
   runs : place_at out.places t ≡ Some Running
-  runs = ap (λ ps. place_at ps t) places ∙ place_at-set_same s.lot.places t (Taken was_told.0 was_told.1 false)
-      (Some Running) was_told.2
+  runs = ap (λ ps. place_at ps t) places
+      ∙ place_at-set_same s.lot.places t (Taken was_told.0 (key_of c key) was_told.1 false) (Some Running) was_told.2
 
   others : (v : ℕ) → (v == t) ≡ false → place_at out.places v ≡ place_at s.lot.places v
   others v e = ap (λ ps. place_at ps v) places ∙ place_at-set_other s.lot.places t v (Some Running) e
@@ -215,7 +229,9 @@ module _ (s : State) (t : ℕ) (c d : Call) (key : ℕ) (park : ParkToken) (by :
     where
       inside : (a : Stance) → stance owes.taker.core ≡ a → IsInside a → ⊥
       inside Out e q = q
-      inside (In k how) e q = none≢some (sym free ∙ (seat_of s h by owes.taker (In k how) owes.there e).1)
+      inside (In k how) e q = none≢some
+          (sym (h.outside t key c park by said was_told.0 (key_of c key) was_told.1 here from off was_told.2)
+          ∙ (seat_of s h by owes.taker (In k how) owes.there e).6)
       inside (Asleep k token) e q = q
 
   now_same : (x : ℕ) → (x == by) ≡ false → length (taken_by u.wakes x) ≡ length (taken_by s.wakes x)
@@ -245,27 +261,54 @@ module _ (s : State) (t : ℕ) (c d : Call) (key : ℕ) (park : ParkToken) (by :
       (subst (Tallied (length s.calls) (length (taken_by s.wakes t))) (sym there) mine_counted))
       (λ f. subst (Tallied (length s.calls) (length (taken_by s.wakes x))) (sym (apart x f)) (tallied s h x)))))
 
+  abbrev found_at : Machine
+  found_at = lot_with_at s (key_of c key) out.sleeps out.queues out.places (Some o')
+      (updated s.lot.inside t (Some (key_of c key)))
+
+  -- the others' seats
+  found_seats : (v : ℕ) → (v == t) ≡ false → SeatedIn s.lot v (call_at s v) → SeatedIn found_at v (call_at s v)
+  found_seats v e =
+      seat_there s t h (key_of c key) None (Some o') free none_its out.sleeps out.queues out.places found_at.inside v e
+      (updated_other s.lot.inside t (Some (key_of c key)) v e)
+      (λ r. others v e ∙ r)
+      (λ x j how at is place. subst (λ (p : Option Place). PlaceWhile how x.spot p (2 * x.lock + j)) (sym (others v e))
+      place)
+      (λ x j token at asleep lies. subst (λ (p : Option Place). IsAt x.spot p (core_lot.open_at found_at)
+      (2 * x.lock + j)) (sym (others v e))
+      (held_still s t h (key_of c key) None (Some o') free none_its (core_lot.open_at found_at) (λ l. refl) x.spot
+      (place_at s.lot.places v) (2 * x.lock + j)
+      (λ b told o same gone sec own in_it. absurd (no_section s h t (bucket s (2 * x.lock + j)) o was_out sec own))
+      lies))
+
   pub found_fits : LotFits u
   found_fits = record {
     sound = sound;
     seated = seats_one s t h low (Some d) out
-        (subst (λ (x : Option Section). Seated t (Some d) (place_at out.places t) x) (sym is)
-        (sits t d (In key (Tells (sign false))) (place_at out.places t) (Some o') to
-        (o', refl, whose, at_key ∙ ap (λ (j : ℕ). 2 * j + key) (sym lock), (stored, said_so), runs)))
-        (λ v e seat. subst (λ (p : Option Place). Seated v (call_at s v) p out.section) (sym (others v e))
-        (seated_apart s t h low v (call_at s v) (place_at s.lot.places v) (place_at s.lot.places v) s.lot.section
-        out.section
-        (λ o sec own. absurd (none≢some (sym free ∙ sec)))
-        (λ r. r)
-        (outside_of out.section o' t v e is whose)
-        (λ j token x at asleep. lies_still x.spot (place_at s.lot.places v) s.lot.section out.section (2 * x.lock + j)
-        (λ b told o gone sec. absurd (none≢some (sym free ∙ sec))))
-        seat));
-    opened = λ section at. (
-      t,
-      ap (λ (y : Section). y.thread) (sym (same_section (sym is ∙ at))) ∙ whose,
-      subst (λ (n : ℕ). t < n) (sym (same_length s t h low (Some d) out)) low,
-    );
+        (subst (λ (m : Machine). SeatedIn m t (Some d)) (sym as_lot)
+        (sits t d (In key (Tells (sign false))) found_at to (
+          o',
+          ap (λ (j : ℕ). core_lot.open_at found_at (2 * j + key)) lock
+              ∙ updated_at s.lot.sections (bucket s (key_of c key)) (Some o'),
+          whose,
+          at_key ∙ ap (λ (j : ℕ). 2 * j + key) (sym lock),
+          (stored, said_so),
+          runs,
+          updated_at s.lot.inside t (Some (key_of c key)) ∙ ap (λ (j : ℕ). Some (2 * j + key)) (sym lock),
+        )))
+        (λ v e seat. subst (λ (m : Machine). SeatedIn m v (call_at s v)) (sym as_lot) (found_seats v e seat));
+    opened = λ b section at.
+        let x = open_which s t h (key_of c key) None (Some o') free none_its low
+        (λ x e. ap (λ (y : Section). y.thread) (sym (same_section e)) ∙ whose) b section
+        (sym (ap (λ (m : Machine). m.sections b) as_lot) ∙ at) in
+        (x.0, x.1, subst (λ (n : ℕ). x.0 < n) (sym (same_length s t h low (Some d) out)) x.2);
+    outside = λ x j z token b told y k sleep at asleep gone place. by_eqb x t (out.inside b ≡ None)
+        (λ e. absurd (asleep_in
+        (sym asleep ∙ (ap (λ (y : Call). stance y.core) (sym (same_call (sym there ∙ (ap (call_at u) (sym e) ∙ at))))
+        ∙ to))))
+        (λ e. ap (λ (m : Machine). m.inside b) as_lot
+        ∙ (updated_other s.lot.inside t (Some (key_of c key)) b
+        (ne_eqb b t (λ f. nobody_off s h t c here not_taker x j token z b told f (sym (apart x e) ∙ at) asleep gone))
+        ∙ h.outside x j z token b told y k sleep (sym (apart x e) ∙ at) asleep gone (sym (others x e) ∙ place)));
     waits = found_waits;
     owed = found_owed;
     woken = found_woken;

@@ -2,6 +2,7 @@
 use Rattle.std.proofs.Common.{◌≡◌, ◌<◌, ◌≤◌, ℕ, ◌+◌, ◌*◌, ◌==◌, inr, false, List, length, remove, Option, Some, None}
 use Rattle.std.proofs.Common.{slice_get, count_by, refl, sym, ap, ◌∙◌, subst, arith, eq-eqb}
 use Rattle.std.specs.List.{position_or_len}
+use Rattle.std.specs.Option.{option_map_or}
 use Rattle.std.proofs.lemmas.Bool.{ne_eqb}
 use Rattle.parking_lot_core_model.specs.declared.parking.ParkToken.{ParkToken}
 use Rattle.parking_lot_core_model.specs.declared.place.Phase.{Phase}
@@ -9,30 +10,31 @@ use Rattle.parking_lot_core_model.specs.declared.place.Place.{Place}
 use Rattle.parking_lot_core_model.specs.declared.place.Place.TheVariants.{Running}
 use Rattle.parking_lot_core_model.specs.declared.place.Section.{Section}
 use Rattle.parking_lot_core_model.specs.declared.place.Waiter.{Waiter}
-use Rattle.parking_lot_core_model.specs.Machine.{Machine, in_phase, is_thread, stored}
+use Rattle.parking_lot_core_model.specs.Machine.{Machine, fresh_section, is_thread}
 use Rattle.parking_lot_core_model.specs.Machine as lot
-use Rattle.parking_lot_core_model.specs.Places.{place_at}
+use Rattle.parking_lot_core_model.specs.Places.{may_return, place_at}
 use Rattle.parking_lot_core_model.specs.Sound.{Sound, times_at}
 use Rattle.parking_lot_core_model.proofs.Kept.{updated_at, updated_other}
 use Rattle.parking_lot_core_model.proofs.Numbers.{count_by-at}
-use Rattle.parking_lot_core_model.proofs.Sequences.{sound_returned}
-use Rattle.parking_lot_core_model.proofs.Sounds.{none≢some, by_eqb}
+use Rattle.parking_lot_core_model.proofs.Sounds.{sound_returned}
+use Rattle.parking_lot_core_model.proofs.Entering.{none≢some, open_within, phase_within, within}
+use Rattle.parking_lot_core_model.proofs.Kept.{by_eqb}
 use Rattle.parking_lot_machine_calls.specs.declared.seat.WakeResult.{WakeResult}
 use Rattle.parking_lot_machine_calls.specs.declared.seat.QueuePosition.{QueuePosition}
 use Rattle.parking_lot_machine_calls.specs.declared.open_call.Call.{Call}
 use Rattle.parking_lot_machine_calls.specs.declared.seat.Wakeup.{Wakeup}
-use Rattle.parking_lot_machine.specs.Rows.{State, call_at, taken_by}
+use Rattle.parking_lot_machine.specs.Rows.{State, bucket, call_at, open_at, taken_by}
 use Rattle.parking_lot_machine_calls.specs.Stances.{Doing, In, Asleep, Joined, stance, taken_count}
 use Rattle.parking_lot_machine.specs.RowActs.{with_call, with_lot}
 use Rattle.parking_lot_machine_calls.specs.CallActs.{key_of}
-use Rattle.parking_lot_machine.specs.RowFits.{Awaits, IsAt, IsCounted, IsInside, IsOwed, IsTaken, LotFits, Seated}
+use Rattle.parking_lot_machine.specs.RowFits.{Awaits, IsAt, IsCounted, IsInside, IsOwed, IsTaken, LotFits, SeatedIn}
 use Rattle.parking_lot_machine.specs.RowFits.{Stands, WaitsIn, WakesSome}
 use Rattle.parking_lot_machine.proofs.Indexing.{get_remove}
 use Rattle.parking_lot_machine.proofs.Carrying.{Carries, Tallied, call_within, lock_kept, no_length, same_call}
 use Rattle.parking_lot_machine.proofs.Carrying.{still_taken, tallied}
 use Rattle.parking_lot_machine.proofs.LotActs.{same_section, seat_of, changed_here, changed_there, seats_one}
-use Rattle.parking_lot_machine.proofs.LotActs.{same_length, acted, quiet, sits, nobody_off, seats_still, seated_apart}
-use Rattle.parking_lot_machine.proofs.LotActs.{outside_of, lies_still}
+use Rattle.parking_lot_machine.proofs.LotActs.{same_length, acted, quiet, sits, nobody_off, no_section, seats_still}
+use Rattle.parking_lot_machine.proofs.LotActs.{held_still, lot_with_at, now_at, open_which, seat_there}
 
 in_asleep : {k j : ℕ} {how : Doing} {token : ParkToken} → In k how ≡ Asleep j token → ⊥
 in_asleep e = cc
@@ -85,9 +87,11 @@ expired_fits s t c d key park h here from to lock at counts some =
     quiet s t h (call_within s t c here) (Some d)
     (subst (λ (o : Option Call). Carries o (Some d)) (sym here)
     (carries_lying c d key park from to lock at counts some))
-    (sits t d (Asleep key park) (place_at s.lot.places t) s.lot.section to
-    (subst (λ (j : ℕ). Stands t j (Asleep key park) d.spot (place_at s.lot.places t) s.lot.section) (sym lock)
-    (subst (λ (a : QueuePosition). Stands t c.lock (Asleep key park) a (place_at s.lot.places t) s.lot.section) (sym at)
+    (sits t d (Asleep key park) s.lot to
+    (subst (λ (j : ℕ). Stands t j (Asleep key park) d.spot (place_at s.lot.places t) (s.lot.inside t) (open_at s))
+    (sym lock)
+    (subst (λ (a : QueuePosition). Stands t c.lock (Asleep key park) a (place_at s.lot.places t) (s.lot.inside t)
+    (open_at s)) (sym at)
     (seat_of s h t c (Asleep key park) here from))))
 
 -- IT IS BACK IN ITS SECTION
@@ -120,37 +124,59 @@ module _ (s : State) (t : ℕ) (c d : Call) (key : ℕ) (park : ParkToken) (h : 
     (from : stance c.core ≡ Asleep key park) (to : stance d.core ≡ In key (Joined park)) (lock : d.lock ≡ c.lock)
     (at : c.spot ≡ QueuePosition.Listed)
     (at' : d.spot ≡ QueuePosition.Listed) (counts : taken_count d.core ≡ taken_count c.core)
-    (none : taken_count c.core ≡ 0) (some : WakesSome d.core) (free : s.lot.section ≡ None) where
+    (none : taken_count c.core ≡ 0) (some : WakesSome d.core) (free : open_at s (key_of c key) ≡ None) where
   abbrev back_section : Section
   back_section = record { thread = Some t; key = key_of c key; phase = Phase.Joined; token = record { 0 = 0 } }
 
   waits_there : WaitsIn (place_at s.lot.places t) (2 * c.lock + key)
-  waits_there = subst (λ (a : QueuePosition). IsAt a (place_at s.lot.places t) s.lot.section (2 * c.lock + key)) at
+  waits_there = subst (λ (a : QueuePosition). IsAt a (place_at s.lot.places t) (open_at s) (2 * c.lock + key)) at
       (seat_of s h t c (Asleep key park) here from).0
+
+  abbrev back_lot : Machine
+  back_lot = within s.lot back_section
+
+  back_as : lot.returned s.lot t (key_of c key) ≡ back_lot
+  back_as = phase_within s.lot (fresh_section (Some t) (key_of c key)) Phase.Joined
+
+  -- nobody was there
+  none_its : (x : Section) → None ≡ Some x → x.thread ≡ Some t
+  none_its x e = absurd (none≢some e)
 
   pub returned_fits : LotFits (with_lot (with_call s t d) (lot.returned s.lot t (key_of c key)))
   returned_fits =
-      acted s t h (call_within s t c here) (Some d) (lot.returned s.lot t (key_of c key))
+      let seat = seat_of s h t c (Asleep key park) here from in
+      subst (λ (m : Machine). LotFits (with_lot (with_call s t d) m)) (sym back_as)
+      (acted s t h (call_within s t c here) (Some d) back_lot
       (subst (λ (o : Option Call). Carries o (Some d)) (sym here)
       (carries_back c d key park from to lock at at' counts none some))
-      (sound_returned s.lot t (key_of c key) h.sound) refl
+      (subst Sound back_as (sound_returned s.lot t (key_of c key) h.sound free
+      (ap (λ (p : Option Place). option_map_or (may_return (key_of c key)) p false) waits_there.1
+      ∙ eq-eqb (key_of c key) (key_of c key) refl))) refl
       (λ v k token x is asleep. refl)
-      (sits t d (In key (Joined park)) (place_at s.lot.places t) (Some back_section) to (
+      (λ v j x token by said y k sleep is asleep off place.
+      updated_other s.lot.inside t (Some (key_of c key)) by
+      (ne_eqb by t (λ e. nobody_off s h t c here none v j token x by said e is asleep off))
+      ∙ h.outside v j x token by said y k sleep is asleep off place)
+      (sits t d (In key (Joined park)) back_lot to
+      (subst (λ (j : ℕ). Stands t j (In key (Joined park)) d.spot (place_at s.lot.places t) (back_lot.inside t)
+      (lot.open_at back_lot)) (sym lock) (
         back_section,
+        open_within s.lot back_section,
         refl,
         refl,
-        ap (λ (j : ℕ). 2 * j + key) (sym lock),
         refl,
-        (at', subst (λ (j : ℕ). WaitsIn (place_at s.lot.places t) (2 * j + key)) (sym lock) waits_there),
-      ))
-      (λ v e. seated_apart s t h (call_within s t c here) v (call_at s v) (place_at s.lot.places v)
-      (place_at s.lot.places v) s.lot.section (Some back_section)
-      (λ o is whose. absurd (none≢some (sym free ∙ is)))
-      (λ runs. runs)
-      (outside_of (Some back_section) back_section t v e refl refl)
-      (λ j token x is asleep. lies_still x.spot (place_at s.lot.places v) s.lot.section (Some back_section)
-      (2 * x.lock + j) (λ by said o at sec. absurd (none≢some (sym free ∙ sec)))))
-      (λ section is. (t, ap (λ (y : Section). y.thread) (sym (same_section is)), call_within s t c here))
+        (at', waits_there),
+        updated_at s.lot.inside t (Some (key_of c key)),
+      )))
+      (λ v e. seat_there s t h (key_of c key) None (Some back_section) free none_its s.lot.sleeps s.lot.queues
+      s.lot.places back_lot.inside v e (updated_other s.lot.inside t (Some (key_of c key)) v e) (λ runs. runs)
+      (λ x j how is in_it place. place)
+      (λ x j token is asleep. held_still s t h (key_of c key) None (Some back_section) free none_its
+      (lot.open_at back_lot) (λ i. refl) x.spot (place_at s.lot.places v) (2 * x.lock + j)
+      (λ by said o same off there whose in_it. absurd
+      (no_section s h t (bucket s (2 * x.lock + j)) o seat.1 there whose))))
+      (open_which s t h (key_of c key) None (Some back_section) free none_its (call_within s t c here)
+      (λ x e. ap (λ (y : Section). y.thread) (sym (same_section e)))))
 
 -- IT IS OFF ITS LIST
 
@@ -160,8 +186,10 @@ module _ (s : State) (t : ℕ) (c d : Call) (key : ℕ) (two : key < 2) (how : D
     (out : Machine) (sound : Sound out) (queues : out.queues ≡ (lot.given_up s.lot t (key_of c key)).queues)
     (runs : place_at out.places t ≡ Some Running)
     (others : (v : ℕ) → (v == t) ≡ false → place_at out.places v ≡ place_at s.lot.places v)
-    (o' : Section) (is : out.section ≡ Some o') (whose : o'.thread ≡ Some t)
-    (own : (place : Option Place) → place ≡ Some Running → Stands t d.lock (In key how) d.spot place (Some o'))
+    (o' : Section) (whose : o'.thread ≡ Some t)
+    (as_lot : out ≡ lot_with_at s (key_of c key) out.sleeps out.queues out.places (Some o') s.lot.inside)
+    (own : (place : Option Place) (secs : ℕ → Option Section) → place ≡ Some Running
+    → secs (key_of c key) ≡ Some o' → Stands t d.lock (In key how) d.spot place (Some (key_of c key)) secs)
   where
     abbrev u : State
     u = with_lot (with_call s t d) out
@@ -250,23 +278,41 @@ module _ (s : State) (t : ℕ) (c d : Call) (key : ℕ) (two : key < 2) (how : D
               all = λ i. omega (arith, before, none, still);
             }
 
+    abbrev quit_lot : Machine
+    quit_lot = lot_with_at s (key_of c key) out.sleeps out.queues out.places (Some o') s.lot.inside
+
+    was : Stands t c.lock (In key (Joined park)) c.spot (place_at s.lot.places t) (s.lot.inside t) (open_at s)
+    was = seat_of s h t c (In key (Joined park)) here from
+
     pub quit_fits : LotFits u
     quit_fits = record {
       sound = sound;
       seated = seats_one s t h low (Some d) out
-          (subst (λ (x : Option Section). Seated t (Some d) (place_at out.places t) x) (sym is)
-          (sits t d (In key how) (place_at out.places t) (Some o') to (own (place_at out.places t) runs)))
-          (λ v e. let seat = seat_of s h t c (In key (Joined park)) here from in
-          seats_still s t c d h here out seat.0 o' seat.1 is seat.2 whose v e (others v e)
+          (subst (λ (m : Machine). SeatedIn m t (Some d)) (sym as_lot)
+          (sits t d (In key how) quit_lot to
+          (subst (λ (i : Option ℕ). Stands t d.lock (In key how) d.spot (place_at out.places t) i
+          (lot.open_at quit_lot)) (sym was.6)
+          (own (place_at out.places t) (lot.open_at quit_lot) runs
+          (now_at s t c d h here (key_of c key) was.0 o' was.1 was.2 whose out.sleeps out.queues out.places)))))
+          (λ v e seat. subst (λ (m : Machine). SeatedIn m v (call_at s v)) (sym as_lot)
+          (seats_still s t c d h here (key_of c key) was.0 o' was.1 was.2 whose out.sleeps out.queues out.places v e
+          (others v e)
           (λ j token x by said by_t at asleep off in_it. absurd
-          (nobody_off s h t c here none v j token x by said by_t at asleep off)));
-      opened = λ section at. (
-        t,
-        ap (λ (y : Section). y.thread) (sym (same_section (sym is ∙ at))) ∙ whose,
-        subst (λ (n : ℕ). t < n) (sym (same_length s t h low (Some d) out)) low,
-      );
+          (nobody_off s h t c here none v j token x by said by_t at asleep off)) seat));
+      opened = λ b section at.
+          let x = open_which s t h (key_of c key) (Some was.0) (Some o') was.1
+          (λ x e. ap (λ (y : Section). y.thread) (sym (same_section e)) ∙ was.2) low
+          (λ x e. ap (λ (y : Section). y.thread) (sym (same_section e)) ∙ whose) b section
+          (sym (ap (λ (m : Machine). m.sections b) as_lot) ∙ at) in
+          (x.0, x.1, subst (λ (n : ℕ). x.0 < n) (sym (same_length s t h low (Some d) out)) x.2);
       waits = quit_waits;
       owed = quit_owed;
+      outside = λ x j z token by said y k sleep at asleep off place. by_eqb x t (out.inside by ≡ None)
+          (λ e. absurd (in_asleep
+          (sym to ∙ (ap (λ (y : Call). stance y.core) (same_call (sym there ∙ (ap (call_at u) (sym e) ∙ at)))
+          ∙ asleep))))
+          (λ e. ap (λ (m : Machine). m.inside by) as_lot
+          ∙ h.outside x j z token by said y k sleep (sym (apart x e) ∙ at) asleep off (sym (others x e) ∙ place));
       woken = quit_woken;
       once = h.once;
       counted = λ x z at. subst (Tallied (length u.calls) (length (taken_by s.wakes x))) at (quit_tally x);

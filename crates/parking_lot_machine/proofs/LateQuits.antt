@@ -1,9 +1,9 @@
 -- One whose moment has passed takes itself out of its list: that keeps the machine fit, and is a step of the rules.
-use Rattle.std.proofs.Common.{◌≡◌, ℕ, zero, suc, ◌+◌, ◌*◌, ◌≤◌, ◌<◌, ◌≢◌, ◌==◌, ◌||◌, inl, inr, Bool, true, false, cond}
-use Rattle.std.proofs.Common.{List, [], ◌∷◌, length, remove, Some, None, is_some, slice_get, slice_set, refl, sym, ap}
+use Rattle.std.proofs.Common.{◌≡◌, ℕ, zero, suc, ◌+◌, ◌*◌, ◌≤◌, ◌<◌, ◌≢◌, ◌==◌, ◌||◌, Bool, true, false, cond}
+use Rattle.std.proofs.Common.{List, [], ◌∷◌, length, remove, Option, Some, None, is_some, slice_get, slice_set, refl, sym, ap}
 use Rattle.std.proofs.Common.{◌∙◌, subst, arith, eqb-true, eq-eqb}
 use Rattle.std.specs.List.{position_or_len}
-use Rattle.std.specs.Option.{option_and_then, option_map}
+use Rattle.std.specs.Option.{option_map}
 use Rattle.std.proofs.lemmas.Bool.{ne_eqb}
 use Rattle.std.proofs.lemmas.List.{length-map}
 use Rattle.std.proofs.lemmas.List.Edits.{length-remove}
@@ -12,12 +12,13 @@ use Rattle.parking_lot_core_model.specs.declared.place.Phase.{Phase}
 use Rattle.parking_lot_core_model.specs.declared.place.Place.TheVariants.{Running, Waiting}
 use Rattle.parking_lot_core_model.specs.declared.place.Section.{Section}
 use Rattle.parking_lot_core_model.specs.declared.place.Waiter.{Waiter}
-use Rattle.parking_lot_core_model.specs.Machine.{Machine, is_thread, stored, threads_of}
+use Rattle.parking_lot_core_model.specs.Machine.{Machine, given_up, is_thread, stored, threads_of}
 use Rattle.parking_lot_core_model.specs.Places.{place_at}
 use Rattle.parking_lot_core_model.specs.Results.{is_left}
 use Rattle.parking_lot_core_model.specs.Sound as lot
 use Rattle.parking_lot_core_model.specs.Sound.{times_at}
-use Rattle.parking_lot_core_model.proofs.Kept.{updated_at, updated_other}
+use Rattle.parking_lot_core_model.specs.Lists.{updated}
+use Rattle.parking_lot_core_model.proofs.Kept.{updated_at, updated_other, updated_twice}
 use Rattle.parking_lot_core_model.proofs.Numbers.{flag, first_passes}
 use Rattle.parking_lot_core_model.proofs.Sounds.{place_at-set_same, place_at-set_other}
 use Rattle.parking_lot_rules.specs.Any.{AnyStep, Mx, MxStep, Rw, any_after, any_allowed, any_crossing}
@@ -44,7 +45,8 @@ use Rattle.parking_lot_machine_calls.specs.CallActs.{hears}
 use Rattle.parking_lot_machine.specs.RowFits.{FitsTogether, IsPrepared, LotFits, WaitsIn}
 use Rattle.parking_lot_machine_calls.specs.CallKinds.{IsOfKind}
 use Rattle.parking_lot_machine.specs.RowSteps.{IsLateMove, IsMade, IsMoveOf}
-use Rattle.parking_lot_machine.specs.Rows.{State, call_at, inside, mutex_at, queue_at, rw_lock_at, taken_by, word_at}
+use Rattle.parking_lot_machine.specs.Rows.{State, bucket, call_at, mutex_at, open_at, queue_at, rw_lock_at, taken_by}
+use Rattle.parking_lot_machine.specs.Rows.{word_at}
 use Rattle.parking_lot_machine_calls.specs.Stances.{In, Joined, Stores, Tells, core_next, pending_from, quits_as, sign}
 use Rattle.parking_lot_machine_calls.specs.Stances.{stance}
 use Rattle.parking_lot_machine.proofs.KindTable.{Kind, Tardy, of_mutexes, of_rws, roles_at, same, shown}
@@ -52,14 +54,15 @@ use Rattle.parking_lot_machine.proofs.KindTable.{Late as CallLate}
 use Rattle.parking_lot_machine.proofs.LateKinds.{IsBack, Quits, backs, quits_so, sleeper_plays}
 use Rattle.parking_lot_machine.proofs.LateRules.{quit_lists}
 use Rattle.parking_lot_machine.proofs.LateLots.{quit_fits}
-use Rattle.parking_lot_machine.proofs.LotActs.{seat_of}
+use Rattle.parking_lot_machine.proofs.LotActs.{lot_with_at, phase_as, restored_as, seat_of}
 use Rattle.parking_lot_machine.proofs.LotLists.{one_key}
-use Rattle.parking_lot_machine.proofs.Making.{Crossed, made}
+use Rattle.parking_lot_machine.proofs.Crossings.{Continues, continues}
+use Rattle.parking_lot_machine.proofs.Making.{Crossed, entries, made}
 use Rattle.parking_lot_machine.proofs.Meeting.{meets, plays_late}
 use Rattle.parking_lot_machine.proofs.Owning.{OwnAct, own-elsewhere, own-there, own_after}
 use Rattle.parking_lot_machine.proofs.Passing.{own_passes}
 use Rattle.parking_lot_machine.proofs.Ruling.{Fitted, rules_own}
-use Rattle.parking_lot_machine.proofs.TakeParts.{others_out, out_knows}
+use Rattle.parking_lot_machine.proofs.TakeParts.{beside, list_known}
 use Rattle.parking_lot_machine.proofs.WakesKept.{wakes_own}
 
 -- LISTS AND THEIR THREADS
@@ -93,7 +96,7 @@ module _ {C R L : Type 0} (K : Kind C R L) (s u : State) (t : ℕ) (c : Call) (t
       → K.any (K.lock (word_at s c.lock)
       (slice_set (roles_at K s c.lock) t (K.plays c.others QueuePosition.Listed (taken_by s.wakes t) q))
       (queue_at u (2 * c.lock)) (queue_at u (2 * c.lock + 1))) ≡ any_after t step (K.any (shown K s c.lock))
-      → Crossed (any_crossing step) t (inside s) (inside u) → IsMade c.lock t step s u
+      → Crossed (any_crossing step) t (entries s c.lock) (entries u c.lock) → IsMade c.lock t step s u
   lapse_made step word allowed leads crossed =
       made K s u t c.lock (own-there s u t c told _ at a) (own-elsewhere s u t c told _ at a) kind_is step allowed
       (ap K.any (own_after K s u t c told q at a (word_at s c.lock) word) ∙ leads) crossed
@@ -124,7 +127,7 @@ module _ (s : State) (t : ℕ) (c : Call) (late : is_back c.core ≡ true) (h : 
   has_come : IsBack (recursive_in s.kinds c.lock) c.others c.core
   has_come = backs (recursive_in s.kinds c.lock) c.others c.core late (h.rules.prepared t c here)
 
-  stands : (o : Section) × (s.lot.section ≡ Some o) × (o.thread ≡ Some t) × (o.key ≡ 2 * c.lock + which)
+  stands : (o : Section) × (open_at s key ≡ Some o) × (o.thread ≡ Some t) × (o.key ≡ 2 * c.lock + which)
       × (o.phase ≡ Phase.Joined) × (c.spot ≡ QueuePosition.Listed)
       × WaitsIn (place_at s.lot.places t) (2 * c.lock + which)
   stands = let seat = seat_of s h.lots t c (In which (Joined has_come.park)) here has_come.stands in
@@ -153,8 +156,16 @@ module _ (s : State) (t : ℕ) (c : Call) (late : is_back c.core ≡ true) (h : 
     quit_queue : (l : ℕ) → quit_state.lot.queues l ≡ (out_of_list s t c).queues l
     quit_queue l = go told_now
       where
-        go : (b : Bool) → (cond b (stored (out_of_list s t c) (sign false)) (out_of_list s t c)).queues l
+        go : (b : Bool) → (cond b (stored (out_of_list s t c) key (sign false)) (out_of_list s t c)).queues l
             ≡ (out_of_list s t c).queues l
+        go true = refl
+        go false = refl
+
+    quit_buckets : quit_state.lot.buckets ≡ s.lot.buckets
+    quit_buckets = go told_now
+      where
+        go : (b : Bool) → (cond b (stored (out_of_list s t c) key (sign false)) (out_of_list s t c)).buckets
+            ≡ s.lot.buckets
         go true = refl
         go false = refl
 
@@ -170,6 +181,7 @@ module _ (s : State) (t : ℕ) (c : Call) (late : is_back c.core ≡ true) (h : 
       words = λ j ne. refl;
       queues = λ j k ne b. quit_queue (2 * j + k) ∙ updated_other s.lot.queues key (remove q i) (2 * j + k)
           (ne_eqb (2 * j + k) key (λ e. ne (one_key j c.lock k which b two e).0));
+      buckets = quit_buckets;
       listed = λ k token e. stands.5;
     }
 
@@ -217,41 +229,82 @@ module _ (s : State) (t : ℕ) (c : Call) (late : is_back c.core ≡ true) (h : 
         d : Call
         d = hears c heard
 
+        -- the section of the key comes so far
+        ends : out_of_list s t c ≡ lot_with_at s key s.lot.sleeps (out_of_list s t c).queues (out_of_list s t c).places
+            (Some (record o { phase = Phase.Ended })) s.lot.inside
+        ends = ap (λ (m : Machine). given_up m t key) (phase_as s key o Phase.Ended stands.1)
+
+        tells : stored (out_of_list s t c) key (sign false) ≡ lot_with_at s key s.lot.sleeps (out_of_list s t c).queues
+            (out_of_list s t c).places (Some (record o { phase = Phase.Stored; token = sign false })) s.lot.inside
+        tells = ap (λ (m : Machine). stored m key (sign false)) ends
+            ∙ restored_as s key s.lot.sleeps (out_of_list s t c).queues (out_of_list s t c).places
+            (record o { phase = Phase.Ended }) s.lot.inside (sign false)
+
         go : (b : Bool) → stance d.core ≡ In which (cond b (Tells (sign false)) Stores)
-            → lot.Sound (cond b (stored (out_of_list s t c) (sign false)) (out_of_list s t c))
+            → lot.Sound (cond b (stored (out_of_list s t c) key (sign false)) (out_of_list s t c))
             → LotFits (with_lot (with_call s t d)
-            (cond b (stored (out_of_list s t c) (sign false)) (out_of_list s t c)))
+            (cond b (stored (out_of_list s t c) key (sign false)) (out_of_list s t c)))
         go true to so =
             let o' : Section = record o { phase = Phase.Stored; token = sign false } in
-            let out = stored (out_of_list s t c) (sign false) in
+            let out = stored (out_of_list s t c) key (sign false) in
             quit_fits s t c d which two (Tells (sign false)) has_come.park h.lots here has_come.stands to refl
             has_come.none quit_goes.none (λ asked. absurd (quit_goes.wakes asked)) out so refl (quit_runs out refl)
-            (quit_others out refl) o'
-            (ap (λ x. option_map {T = Section} (λ y. record y { phase = Phase.Stored; token = sign false })
-            (option_map {T = Section} (λ y. record y { phase = Phase.Ended }) x)) stands.1) stands.2
-            (λ place runs. (o', refl, stands.2, stands.3, (refl, refl), runs))
+            (quit_others out refl) o' stands.2 tells
+            (λ place secs runs at. (o', at, stands.2, stands.3, (refl, refl), runs, refl))
         go false to so =
             let o' : Section = record o { phase = Phase.Ended } in
             quit_fits s t c d which two Stores has_come.park h.lots here has_come.stands to refl has_come.none
             quit_goes.none (λ asked. absurd (quit_goes.wakes asked)) (out_of_list s t c) so refl
             (quit_runs (out_of_list s t c) refl)
-            (quit_others (out_of_list s t c) refl) o'
-            (ap (option_map {T = Section} (λ y. record y { phase = Phase.Ended })) stands.1) stands.2
-            (λ place runs. (o', refl, stands.2, stands.3, refl, runs))
+            (quit_others (out_of_list s t c) refl) o' stands.2 ends
+            (λ place secs runs at. (o', at, stands.2, stands.3, refl, runs, refl))
 
     -- and the rules'
-    quit_inside : inside quit_state ≡ inside s
-    quit_inside = go told_now
+    -- its section goes on, with one change or two
+    quit_shape : (b : Bool) → let m = cond b (stored (out_of_list s t c) key (sign false)) (out_of_list s t c) in
+        (f : Section → Section) × ((x : Section) → (f x).thread ≡ x.thread)
+        × ((n : ℕ) → m.sections n ≡ updated s.lot.sections (bucket s key) (option_map f (open_at s key)) n)
+        × (m.buckets ≡ s.lot.buckets) × ((l : ℕ) → (l == key) ≡ false → m.queues l ≡ s.lot.queues l)
+    quit_shape true = (
+      λ x. record x { phase = Phase.Stored; token = sign false },
+      λ x. refl,
+      λ n. stored_twice n,
+      refl,
+      λ l ne. updated_other s.lot.queues key (remove q i) l ne,
+    )
       where
-        go : (b : Bool) → inside (with_lot s (cond b (stored (out_of_list s t c) (sign false)) (out_of_list s t c)))
-            ≡ inside s
-        go true = ap (λ x. option_and_then (λ (y : Section). y.thread)
-            (option_map {T = Section} (λ y. record y { phase = Phase.Stored; token = sign false })
-            (option_map {T = Section} (λ y. record y { phase = Phase.Ended }) x))) stands.1
-            ∙ sym (ap (option_and_then (λ (y : Section). y.thread)) stands.1)
-        go false = ap (λ x. option_and_then (λ (y : Section). y.thread)
-            (option_map {T = Section} (λ y. record y { phase = Phase.Ended }) x)) stands.1
-            ∙ sym (ap (option_and_then (λ (y : Section). y.thread)) stands.1)
+        ends : Section → Section
+        ends x = record x { phase = Phase.Ended }
+
+        tells : Section → Section
+        tells x = record x { phase = Phase.Stored; token = sign false }
+
+        both : (o : Option Section) → option_map tells (option_map ends o) ≡ option_map tells o
+        both None = refl
+        both (Some x) = refl
+
+        stored_twice : (n : ℕ) → updated (updated s.lot.sections (bucket s key) (option_map ends (open_at s key)))
+            (bucket s key) (option_map tells (updated s.lot.sections (bucket s key) (option_map ends (open_at s key))
+            (bucket s key))) n ≡ updated s.lot.sections (bucket s key) (option_map tells (open_at s key)) n
+        stored_twice n =
+            ap (λ (o : Option Section). updated (updated s.lot.sections (bucket s key)
+            (option_map ends (open_at s key))) (bucket s key) (option_map tells o) n)
+            (updated_at s.lot.sections (bucket s key) (option_map ends (open_at s key)))
+            ∙ (ap (λ (g : ℕ → Option Section). g n) (updated_twice s.lot.sections (bucket s key)
+            (option_map ends (open_at s key)) (option_map tells (option_map ends (open_at s key))))
+            ∙ ap (λ (o : Option Section). updated s.lot.sections (bucket s key) o n) (both (open_at s key)))
+    quit_shape false = (
+      λ x. record x { phase = Phase.Ended },
+      λ x. refl,
+      λ n. refl,
+      refl,
+      λ l ne. updated_other s.lot.queues key (remove q i) l ne,
+    )
+
+    quit_on : Continues s quit_state t
+    quit_on =
+        let x = quit_shape told_now in
+        continues s quit_state t c h.lots here which (Joined has_come.park) has_come.stands x.0 x.1 x.2 x.3 x.4
 
     quit_mutex : (p : LatePhase) → c.core ≡ Core.Late p → late_is_back p ≡ true
         → IsMoveOf (Core.Late p) c.others (taken_by s.wakes t) heard c.lock t s quit_state
@@ -277,7 +330,7 @@ module _ (s : State) (t : ℕ) (c : Call) (late : is_back c.core ≡ true) (h : 
                 stood_there (2 * c.lock) first,
                 omega (arith, as_many (2 * c.lock) first, some_left (remove q i) (left_by ∙ f)),
               )
-              (ap Mx (same of_mutexes _ _ _ _ _ _ [] [] refl refl (list_then (2 * c.lock) first) refl)) quit_inside),
+              (ap Mx (same of_mutexes _ _ _ _ _ _ [] [] refl refl (list_then (2 * c.lock) first) refl)) (tt, quit_on.entered)),
         )
         go false f = (
           i,
@@ -289,7 +342,7 @@ module _ (s : State) (t : ℕ) (c : Call) (late : is_back c.core ≡ true) (h : 
                 stood_there (2 * c.lock) first,
                 omega (arith, as_many (2 * c.lock) first, none_left (remove q i) (left_by ∙ f)),
               )
-              (ap Mx (same of_mutexes _ _ _ _ _ _ [] [] refl refl (list_then (2 * c.lock) first) refl)) quit_inside),
+              (ap Mx (same of_mutexes _ _ _ _ _ _ [] [] refl refl (list_then (2 * c.lock) first) refl)) (tt, quit_on.entered)),
         )
     quit_mutex p e back = absurd cc
 
@@ -346,7 +399,7 @@ module _ (s : State) (t : ℕ) (c : Call) (late : is_back c.core ≡ true) (h : 
                 second = f;
               }))
               lists.2)
-              quit_inside,
+              (tt, quit_on.entered),
         )
     quit_rw p e back = absurd cc
 
@@ -369,8 +422,10 @@ module _ (s : State) (t : ℕ) (c : Call) (late : is_back c.core ≡ true) (h : 
     quits_as_told : (told : ActResult) × Acts t c told s quit_state
     quits_as_told =
         let both = rules_own s quit_state t c heard c.spot own_quit h
-        (λ v e ne at. out_knows e.core quit_state.lot.queues e.lock
-        (others_out s h.lots t c here which (Joined has_come.park) has_come.stands v e ne at)) quit_fitted in (
+        (λ v e ne at. list_known e.core s.lot.queues quit_state.lot.queues e.lock
+        (λ l what is_in. quit_queue (2 * e.lock + l) ∙ updated_other s.lot.queues key (remove q i) (2 * e.lock + l)
+        (beside s h.lots t c here which (Joined has_come.park) has_come.stands v e ne at l what is_in))
+        (h.rules.knows v e at)) quit_fitted in (
           heard,
           record {
             fits =
@@ -378,7 +433,7 @@ module _ (s : State) (t : ℕ) (c : Call) (late : is_back c.core ≡ true) (h : 
                   lots = quit_lots;
                   passes = own_passes s quit_state t c heard (core_next c.core heard) c.spot
                       own_quit quit_lots h.passes
-                      (inr (inl (quit_inside ∙ ap (option_and_then (λ (x : Section). x.thread)) stands.1 ∙ stands.2)))
+                      quit_on.around
                       (λ k o e. absurd (quit_goes.takes k e));
                   wakes = wakes_own s quit_state t c heard (core_next c.core heard)
                       own_quit h.wakes;

@@ -10,7 +10,11 @@ use Rattle.parking_lot_rules.specs.Roles.{Mode, Mark}
 use Rattle.parking_lot_rules.specs.Steps.{Alone, MayList, first_after, second_after}
 use Rattle.parking_lot_machine_calls.specs.LateRoles.{expires_as, quitting_as, reenters_as, expires_taken_as, finds_as}
 use Rattle.parking_lot_machine.specs.RwLaws.{NobodyIs}
-use Rattle.parking_lot_machine.proofs.Making.{Crossed}
+use Rattle.parking_lot_rules.specs.Classes.{bit}
+use Rattle.parking_lot_protocol.specs.declared.act.Act.{Act}
+use Rattle.parking_lot_machine_calls.specs.Stances.{Stance}
+use Rattle.parking_lot_machine.proofs.Making.{Crossed, Entries}
+use Rattle.parking_lot_machine.proofs.OwnMoves.{AfterAct}
 use Rattle.parking_lot_machine.proofs.RwMoving.{nobody}
 
 -- ITS MOMENT PASSES
@@ -26,10 +30,10 @@ pub expire_writes : (o : Option Bool) (m : Mode) (l : Lock) (t : ℕ)
 expire_writes None m l t = refl
 expire_writes (Some from) m l t = refl
 
-pub expire_crosses : (o : Option Bool) (m : Mode) (t : ℕ) (old : Option ℕ)
+pub expire_crosses : (o : Option Bool) (m : Mode) (t : ℕ) (old : Entries)
     → Crossed (any_crossing (RwStep (Alone (expires_as o m)))) t old old
-expire_crosses None m t old = refl
-expire_crosses (Some from) m t old = refl
+expire_crosses None m t old = (tt, λ b. refl)
+expire_crosses (Some from) m t old = (tt, λ b. refl)
 
 -- and so where another has taken it
 pub may_expire_off : (recursive : Bool) (o : Option Bool) (m : Mode) (by : ℕ) (mark : Mark) (l : Lock)
@@ -43,17 +47,18 @@ pub expire_off_writes : (o : Option Bool) (m : Mode) (by : ℕ) (mark : Mark) (l
 expire_off_writes None m by mark l t = refl
 expire_off_writes (Some from) m by mark l t = refl
 
-pub expire_off_crosses : (o : Option Bool) (m : Mode) (by : ℕ) (mark : Mark) (t : ℕ) (old : Option ℕ)
+pub expire_off_crosses : (o : Option Bool) (m : Mode) (by : ℕ) (mark : Mark) (t : ℕ) (old : Entries)
     → Crossed (any_crossing (RwStep (Alone (expires_taken_as o m by mark)))) t old old
-expire_off_crosses None m by mark t old = refl
-expire_off_crosses (Some from) m by mark t old = refl
+expire_off_crosses None m by mark t old = (tt, λ b. refl)
+expire_off_crosses (Some from) m by mark t old = (tt, λ b. refl)
 
 -- IT COMES BACK
 
-pub may_reenter_so : (recursive : Bool) (o : Option Bool) (m : Mode) (l : Lock) → NobodyIs Inside1 l.roles
-    → NobodyIs Inside2 l.roles → May recursive (reenters_as o m) l.word (λ c. total c l.roles)
-may_reenter_so recursive None m l first second = nobody Inside1 l.roles first
-may_reenter_so recursive (Some from) m l first second = nobody Inside2 l.roles second
+pub may_reenter_so : (recursive : Bool) (o : Option Bool) (m : Mode) (l : Lock)
+    → (is_some o ≡ false → NobodyIs Inside1 l.roles) → (is_some o ≡ true → NobodyIs Inside2 l.roles)
+    → May recursive (reenters_as o m) l.word (λ c. total c l.roles)
+may_reenter_so recursive None m l first second = nobody Inside1 l.roles (first refl)
+may_reenter_so recursive (Some from) m l first second = nobody Inside2 l.roles (second refl)
 
 pub reenter_writes : (o : Option Bool) (m : Mode) (l : Lock) (t : ℕ)
     → Rw (record l { roles = slice_set l.roles t (to (reenters_as o m)) }) ≡ any_after t
@@ -61,17 +66,18 @@ pub reenter_writes : (o : Option Bool) (m : Mode) (l : Lock) (t : ℕ)
 reenter_writes None m l t = refl
 reenter_writes (Some from) m l t = refl
 
-pub reenter_crosses : (o : Option Bool) (m : Mode) (t : ℕ) (old : Option ℕ) → old ≡ None
-    → Crossed (any_crossing (RwStep (Alone (reenters_as o m)))) t old (Some t)
-reenter_crosses None m t old free = (free, refl)
-reenter_crosses (Some from) m t old free = (free, refl)
+pub reenter_crosses : (o : Option Bool) (m : Mode) (t : ℕ) (old new : Entries) (a : Stance)
+    → AfterAct a (Act.Enter (bit (is_some o))) t old new
+    → Crossed (any_crossing (RwStep (Alone (reenters_as o m)))) t old new
+reenter_crosses None m t old new a comes = comes
+reenter_crosses (Some from) m t old new a comes = comes
 
 -- and finds that it was taken
 pub may_find_so : (recursive : Bool) (o : Option Bool) (m : Mode) (by : ℕ) (mark : Mark) (l : Lock)
-    → NobodyIs Inside1 l.roles → NobodyIs Inside2 l.roles → May recursive (finds_as o m by mark) l.word
-    (λ c. total c l.roles)
-may_find_so recursive None m by mark l first second = nobody Inside1 l.roles first
-may_find_so recursive (Some from) m by mark l first second = nobody Inside2 l.roles second
+    → (is_some o ≡ false → NobodyIs Inside1 l.roles) → (is_some o ≡ true → NobodyIs Inside2 l.roles)
+    → May recursive (finds_as o m by mark) l.word (λ c. total c l.roles)
+may_find_so recursive None m by mark l first second = nobody Inside1 l.roles (first refl)
+may_find_so recursive (Some from) m by mark l first second = nobody Inside2 l.roles (second refl)
 
 pub find_writes : (o : Option Bool) (m : Mode) (by : ℕ) (mark : Mark) (l : Lock) (t : ℕ)
     → Rw (record l { roles = slice_set l.roles t (to (finds_as o m by mark)) }) ≡ any_after t
@@ -79,10 +85,11 @@ pub find_writes : (o : Option Bool) (m : Mode) (by : ℕ) (mark : Mark) (l : Loc
 find_writes None m by mark l t = refl
 find_writes (Some from) m by mark l t = refl
 
-pub find_crosses : (o : Option Bool) (m : Mode) (by : ℕ) (mark : Mark) (t : ℕ) (old : Option ℕ) → old ≡ None
-    → Crossed (any_crossing (RwStep (Alone (finds_as o m by mark)))) t old (Some t)
-find_crosses None m by mark t old free = (free, refl)
-find_crosses (Some from) m by mark t old free = (free, refl)
+pub find_crosses : (o : Option Bool) (m : Mode) (by : ℕ) (mark : Mark) (t : ℕ) (old new : Entries) (a : Stance)
+    → AfterAct a (Act.Enter (bit (is_some o))) t old new
+    → Crossed (any_crossing (RwStep (Alone (finds_as o m by mark)))) t old new
+find_crosses None m by mark t old new a comes = comes
+find_crosses (Some from) m by mark t old new a comes = comes
 
 -- IT TAKES ITSELF OUT
 

@@ -1,7 +1,7 @@
 -- One whose moment has passed and that was taken comes back and finds that out. That is two steps of the rules: its
 -- taker drops it from those that it is to wake, and it enters the section. The machine stays fit.
-use Rattle.std.proofs.Common.{◌≡◌, ◌≢◌, ◌≤◌, ℕ, ◌+◌, ◌*◌, ◌==◌, inl, inr, Bool, true, false, cond, List, length, Option}
-use Rattle.std.proofs.Common.{Some, None, slice_get, slice_set, refl, sym, ap, ◌∙◌, subst, arith}
+use Rattle.std.proofs.Common.{◌≡◌, ◌≢◌, ◌≤◌, ◌<◌, ℕ, ◌+◌, ◌*◌, ◌==◌, inl, inr, Bool, true, false, cond, List, length, Option}
+use Rattle.std.proofs.Common.{Some, None, is_some, slice_get, slice_set, refl, sym, ap, ◌∙◌, subst, arith}
 use Rattle.std.specs.List.{position_or_len}
 use Rattle.std.specs.Option.{option_and_then}
 use Rattle.std.proofs.lemmas.Bool.{cases_eq, ne_eqb}
@@ -9,6 +9,8 @@ use Rattle.std.proofs.lemmas.List.{length-set}
 use Rattle.std.proofs.lemmas.List.Edits.{length-remove}
 use Rattle.std.proofs.lemmas.Option.{none-some, slice_get_within}
 use Rattle.parking_lot_core_model.specs.declared.parking.UnparkToken.{UnparkToken}
+use Rattle.parking_lot_core_model.specs.declared.place.Place.TheVariants.{Running, Taken}
+use Rattle.parking_lot_core_model.specs.declared.place.Sleep.{Sleep}
 use Rattle.parking_lot_core_model.specs.declared.place.Phase.{Phase}
 use Rattle.parking_lot_core_model.specs.declared.place.Section.{Section}
 use Rattle.parking_lot_core_model.specs.declared.place.Waiter.{Waiter}
@@ -42,17 +44,17 @@ use Rattle.parking_lot_machine.specs.ActLaws.{Acts}
 use Rattle.parking_lot_machine_calls.specs.Kinds.{AsMutex, Manner, manner_of, recursive_in}
 use Rattle.parking_lot_machine.specs.LateActs.{found, found_lot, unowed}
 use Rattle.parking_lot_machine_calls.specs.LateCalls.{comes_late, found_as, is_handed, is_pending, late_comes}
-use Rattle.parking_lot_machine_calls.specs.LateCalls.{late_rw_comes}
+use Rattle.parking_lot_machine_calls.specs.LateCalls.{late_key, late_rw_comes}
 use Rattle.parking_lot_machine_calls.specs.LateRoles.{finding, finds_as, sleeper_role, sleeper_wants, stays}
-use Rattle.parking_lot_machine_calls.specs.CallActs.{key_of, told_of}
+use Rattle.parking_lot_machine_calls.specs.CallActs.{told_of}
 use Rattle.parking_lot_machine.specs.RowFits.{FitsTogether, IsPrepared, KnowsList, LotFits, PassesFit, RulesFit}
 use Rattle.parking_lot_machine.specs.RowFits.{WakesFit, is_away, is_off, IsAt}
 use Rattle.parking_lot_machine_calls.specs.CallKinds.{IsOfKind, IsOfManner}
 use Rattle.parking_lot_machine.specs.RowSteps.{IsMade, IsMoveOf, IsMutexFound, IsRwFound}
-use Rattle.parking_lot_machine.specs.Rows.{State, call_at, hold_at, inside, is_for, mutex_at, queue_at, rw_lock_at}
+use Rattle.parking_lot_machine.specs.Rows.{State, call_at, hold_at, is_for, mutex_at, queue_at, rw_lock_at}
 use Rattle.parking_lot_machine.specs.Rows.{taken_by, word_at}
 use Rattle.parking_lot_machine_calls.specs.CallRoles.{late_role, mark_of, mutex_spot}
-use Rattle.parking_lot_machine_calls.specs.Stances.{Asleep, In, Stance, Takes, Tells, core_act, has_begun, pending_from}
+use Rattle.parking_lot_machine_calls.specs.Stances.{Asleep, In, Out, Stance, Takes, Tells, core_act, has_begun, pending_from}
 use Rattle.parking_lot_machine_calls.specs.Stances.{sign, sleeper_asleep, stance, taken_count}
 use Rattle.parking_lot_machine.specs.Rounds.{rounds}
 use Rattle.parking_lot_machine.proofs.Calling.{call-here, call-elsewhere, calls-change, slot}
@@ -65,12 +67,18 @@ use Rattle.parking_lot_machine.proofs.KindTable.{Late as CallLate}
 use Rattle.parking_lot_machine.proofs.LateFinds.{Owing, found_fits, owing, told_there}
 use Rattle.parking_lot_machine.proofs.LateKinds.{Comes, comes, sleeper_plays, PlaysOff}
 use Rattle.parking_lot_machine.proofs.LateRules.{find_crosses, find_writes, may_find_so}
-use Rattle.parking_lot_machine.proofs.LotActs.{seat_of}
-use Rattle.parking_lot_machine.proofs.Making.{IsSoundState, made, made_sound, move_sound}
+use Rattle.parking_lot_core_model.specs.Lists.{updated}
+use Rattle.parking_lot_core_model.specs.Machine.{Machine, fresh_section, in_phase, stored}
+use Rattle.parking_lot_core_model.proofs.Entering.{phase_within, stored_within}
+use Rattle.parking_lot_machine.specs.Rows.{open_at}
+use Rattle.parking_lot_machine.proofs.Crossings.{comes_at}
+use Rattle.parking_lot_machine.proofs.OwnMoves.{AfterAct}
+use Rattle.parking_lot_machine.proofs.LotActs.{lot_with_at, same_section, seat_of}
+use Rattle.parking_lot_machine.proofs.Making.{IsSoundState, entries, made, made_sound, move_sound}
 use Rattle.parking_lot_machine.proofs.Meeting.{in_range, meets, plays_late}
 use Rattle.parking_lot_machine.proofs.MutexMoving.{total_of_nobody}
 use Rattle.parking_lot_machine.proofs.OwnActs.{sound_first, sound_in_mutex, sound_second}
-use Rattle.parking_lot_machine.proofs.Passing.{passes_after}
+use Rattle.parking_lot_machine.proofs.Passing.{around_at, passes_after}
 use Rattle.parking_lot_machine.proofs.Rousing.{late_wakes, mutex_wakes, others_taken}
 use Rattle.parking_lot_machine.proofs.Ruling.{CallFits, call_fits, rules_after}
 use Rattle.parking_lot_machine.proofs.Owning.{OwnAct, own-elsewhere, own-there, own_after}
@@ -166,7 +174,7 @@ same_wakeup : {e f : Wakeup} → Some e ≡ Some f → e ≡ f
 same_wakeup e = cc
 
 module _ (s : State) (t : ℕ) (c : Call) (by : ℕ) (said : WakeResult) (late : comes_late c.core ≡ true)
-    (off : c.spot ≡ QueuePosition.Off by said) (free : s.lot.section ≡ None)
+    (off : c.spot ≡ QueuePosition.Off by said) (free : open_at s (late_key c) ≡ None)
     (sound : lot.Sound (found s t c by said).lot) (h : FitsTogether s) (here : call_at s t ≡ Some c) where
   abbrev mid : State
   mid = unowed s t
@@ -199,17 +207,21 @@ module _ (s : State) (t : ℕ) (c : Call) (by : ℕ) (said : WakeResult) (late :
   owes = owing s t c which come.park by said h.lots here come.lies off
 
   -- it was told
+  told_here : (token : UnparkToken) × (sleep : Sleep)
+      × (place_at s.lot.places t ≡ Some (Taken token (late_key c) sleep false)) × (said ≡ told_of token)
+  told_here = told_there by said (place_at s.lot.places t) (open_at s) (late_key c) free
+      (subst (λ (a : QueuePosition). IsAt a (place_at s.lot.places t) (open_at s) (late_key c)) off
+      (seat_of s h.lots t c (Asleep which come.park) here come.lies).0)
+
   bears : mark_of said ≡ mark
-  bears =
-      let told = told_there by said (place_at s.lot.places t) s.lot.section (2 * c.lock + which) free
-      (subst (λ (a : QueuePosition). IsAt a (place_at s.lot.places t) s.lot.section (2 * c.lock + which)) off
-      (seat_of s h.lots t c (Asleep which come.park) here come.lies).0) in
-      subst (λ w. mark_of w ≡ of_mutex.mark_of (is_handed w)) (sym told.3) (told_mark told.0)
+  bears = subst (λ w. mark_of w ≡ of_mutex.mark_of (is_handed w)) (sym told_here.3) (told_mark told_here.0)
 
   -- and its taker is outside
   asked : core_act owes.taker.core ≡ act.Section section.Wake
   asked = takers_out owes.taker.core owes.some
-      (λ k how e. none-some _ (sym free ∙ (seat_of s h.lots by owes.taker (In k how) owes.there e).1))
+      (λ k how e. none-some _
+      (sym (h.lots.outside t which c come.park by said told_here.0 (late_key c) told_here.1 here come.lies off
+      told_here.2) ∙ (seat_of s h.lots by owes.taker (In k how) owes.there e).6))
 
   apart : by ≢ t
   apart e = sleep_wakes
@@ -254,11 +266,37 @@ module _ (s : State) (t : ℕ) (c : Call) (by : ℕ) (said : WakeResult) (late :
     word = sym (ap (λ a. word_after a seen.Made (word_at s c.lock)) come.act);
     words = λ j ne. refl;
     queues = λ j k ne b. refl;
+    buckets = refl;
     listed = λ k token e. refl;
   }
 
-  nobody : inside s ≡ None
-  nobody = ap (option_and_then (λ (x : Section). x.thread)) free
+  -- it is back in a section of its list, which has nothing to tell
+  abbrev found_section : Section
+  found_section = record { thread = Some t; key = late_key c; phase = Phase.Stored; token = sign false }
+
+  found_as_lot : found_lot s t c ≡ lot_with_at s (late_key c) u.lot.sleeps u.lot.queues u.lot.places
+      (Some found_section) (updated s.lot.inside t (Some (late_key c)))
+  found_as_lot =
+      let key : ℕ = late_key c in
+      let ps = slice_set s.lot.places t (Some Running) in
+      let m : Machine = record s.lot { places = ps } in
+      let back : Section = record (fresh_section (Some t) key) { phase = Phase.Joined } in
+      ap (λ (n : Machine). stored (in_phase (record n { places = ps }) key Phase.Ended) key (sign false))
+      (phase_within s.lot (fresh_section (Some t) key) Phase.Joined)
+      ∙ (ap (λ (n : Machine). stored n key (sign false)) (phase_within m back Phase.Ended)
+      ∙ stored_within m (record back { phase = Phase.Ended }) (sign false))
+
+  found_crosses : (b : Bool) → is_pending c.core ≡ b
+      → AfterAct Out (act.Enter (bit b)) t (entries s c.lock) (entries u c.lock)
+  found_crosses b e =
+      subst (λ (x : Bool). AfterAct Out (act.Enter (bit x)) t (entries s c.lock) (entries u c.lock)) e
+      (comes_at s u t c.lock (Some found_section) Out which (small (is_pending c.core))
+      (ap (option_and_then (λ (x : Section). x.thread)) free) refl
+      (λ n. ap (λ (m : Machine). m.sections n) found_as_lot))
+    where
+      small : (x : Bool) → bit x < 2
+      small true = omega arith
+      small false = omega arith
 
   module _ {C R L : Type 0} (K : Kind C R L) (k : C) (its : owes.taker.core ≡ K.core k) where
     abbrev x : Call
@@ -312,9 +350,9 @@ module _ (s : State) (t : ℕ) (c : Call) (by : ℕ) (said : WakeResult) (late :
         λ r y at is. mutex_silent by handed by y (ap mutex.note_of (same_role (sym mine ∙ at)) ∙ is),
       )
       (ap Mx (mid_after of_mutexes q.0 q.1 ∙ ap (λ r. record m { roles = slice_set m.roles by r })
-      (waits (taken_by mid.wakes by) ∙ ap (λ vs. mutex.doing (mutex.Wakes vs)) drop.is))) refl in
+      (waits (taken_by mid.wakes by) ∙ ap (λ vs. mutex.doing (mutex.Wakes vs)) drop.is))) (tt, λ b. refl) in
       let still : IsSoundState mid = made_sound s mid by c.lock (MxStep (mutex.Pass false drop.before t drop.behind))
-      passing h.rules.sound in
+      refl passing h.rules.sound in
       let mine_mid : slice_get (mutex_at mid c.lock).roles t ≡ Some (mutex.doing (mutex.Taken by mark Late)) =
       in_its_place of_mutexes mid t c (CallLate LatePhase.Expires) (in_range s t c here) here e
       ∙ ap (λ at. Some (late_role (mutex_spot at) LatePhase.Expires)) off
@@ -329,10 +367,13 @@ module _ (s : State) (t : ℕ) (c : Call) (by : ℕ) (said : WakeResult) (late :
           passing,
           made of_mutexes mid u t c.lock (own-there mid u t c seen.Made _ QueuePosition.Listed a)
               (own-elsewhere mid u t c seen.Made _ QueuePosition.Listed a) kind_is
-              (MxStep (mutex.Alone (mutex.ReenterTaken by mark)))
-              (mine_mid, total_of_nobody (mutex_at mid c.lock).roles (sound_in_mutex mid still nobody c.lock kind_is))
+              (MxStep (mutex.Alone (mutex.ReenterTaken by mark))) (
+                mine_mid,
+                total_of_nobody (mutex_at mid c.lock).roles (sound_in_mutex mid still c.lock
+                    (found_crosses false (ap is_pending e)).0 kind_is),
+              )
               (ap Mx (own_after of_mutexes mid u t c seen.Made (CallLate (LatePhase.WasTaken by handed))
-              QueuePosition.Listed a (word_at s c.lock) refl)) (nobody, refl),
+              QueuePosition.Listed a (word_at s c.lock) refl)) (found_crosses false (ap is_pending e)),
         ),
       )
     where
@@ -369,9 +410,9 @@ module _ (s : State) (t : ℕ) (c : Call) (by : ℕ) (said : WakeResult) (late :
             (ap (λ (r : Role). note_of r.does) (same_role (sym mine ∙ at)) ∙ is),
       )
       (ap Rw (mid_after of_rws q.0 q.1 ∙ ap (λ r. record l { roles = slice_set l.roles by r })
-      (p.from (taken_by mid.wakes by) ∙ ap (λ vs. record { owns = p.owns; does = rules.Wakes vs }) drop.is))) refl
-      in
-      let still : IsSoundState mid = made_sound s mid by c.lock (RwStep step) passing h.rules.sound in
+      (p.from (taken_by mid.wakes by) ∙ ap (λ vs. record { owns = p.owns; does = rules.Wakes vs }) drop.is)))
+      (tt, λ b. refl) in
+      let still : IsSoundState mid = made_sound s mid by c.lock (RwStep step) refl passing h.rules.sound in
       let mine_mid : slice_get (rw_lock_at mid c.lock).roles t ≡ Some
       (from (finds_as (pending_from k) (sleeper_wants k) by mark)) =
       in_its_place of_rws mid t c (Tardy (LateRwPhase.Expires k)) (in_range s t c here) here e
@@ -389,15 +430,17 @@ module _ (s : State) (t : ℕ) (c : Call) (by : ℕ) (said : WakeResult) (late :
               (own-elsewhere mid u t c seen.Made _ QueuePosition.Listed a) kind_is (finding k by mark) (
                 mine_mid,
                 may_find_so (recursive_in s.kinds c.lock) (pending_from k) (sleeper_wants k) by mark
-                    (rw_lock_at mid c.lock) (sound_first mid still nobody c.lock kind_is)
-                    (sound_second mid still nobody c.lock kind_is),
+                    (rw_lock_at mid c.lock)
+                    (λ none. sound_first mid still c.lock (found_crosses false (ap is_pending e ∙ none)).0 kind_is)
+                    (λ some. sound_second mid still c.lock (found_crosses true (ap is_pending e ∙ some)).0 kind_is),
               )
               (ap Rw (own_after of_rws mid u t c seen.Made (Tardy (LateRwPhase.WasTaken k by handed))
               QueuePosition.Listed a (word_at s c.lock) refl)
               ∙ ap (λ r. Rw (record (rw_lock_at mid c.lock) { roles = slice_set (rw_lock_at mid c.lock).roles t r }))
               (role (taken_by mid.wakes t)).3 ∙ find_writes (pending_from k) (sleeper_wants k) by mark
               (rw_lock_at mid c.lock) t)
-              (find_crosses (pending_from k) (sleeper_wants k) by mark t (inside s) nobody),
+              (find_crosses (pending_from k) (sleeper_wants k) by mark t (entries s c.lock) (entries u c.lock) Out
+              (found_crosses (is_some (pending_from k)) (ap is_pending e))),
         ),
       )
     where
@@ -437,8 +480,7 @@ module _ (s : State) (t : ℕ) (c : Call) (by : ℕ) (said : WakeResult) (late :
   found_lots =
       found_fits s t c d which come.park by said h.lots here come.lies off then.to refl refl then.none
       (λ e. absurd (then.wakes e)) free (found_lot s t c) sound refl refl
-      (record { thread = Some t; key = key_of c which; phase = Phase.Stored; token = sign false }) refl refl refl refl
-      refl
+      found_section refl refl found_as_lot refl refl
 
   found_wakes : WakesFit u
   found_wakes = record {
@@ -463,7 +505,9 @@ module _ (s : State) (t : ℕ) (c : Call) (by : ℕ) (said : WakeResult) (late :
 
   found_passes : PassesFit u
   found_passes =
-      passes_after s u t found_lots h.passes (inr (inl refl))
+      passes_after s u t found_lots h.passes
+      (around_at s u t (late_key c) (Some found_section) (λ b. ap (λ (m : Machine). m.sections b) found_as_lot) refl
+      (λ x e. ap (λ (y : Section). y.thread) (sym (same_section e))) (λ k e. refl))
       (λ v e k ne at is. (e, sym (now_others v ne) ∙ at, refl, refl))
       (λ e k o at is there. absurd
       (told_takes (sym then.to ∙ ap (λ (y : Call). stance y.core) (same_call (sym now_here ∙ at)) ∙ is)))
@@ -486,7 +530,7 @@ module _ (s : State) (t : ℕ) (c : Call) (by : ℕ) (said : WakeResult) (late :
     few = h.rules.few;
     elsewhere = λ j ne. refl;
     bits = h.rules.bits c.lock;
-    sound = move_sound s u c.core c.others (taken_by s.wakes t) seen.Made c.lock t moved h.rules.sound;
+    sound = move_sound s u c.core c.others (taken_by s.wakes t) seen.Made c.lock t refl moved h.rules.sound;
   })
 
   pub finds : (told : ActResult) × Acts t c told s u

@@ -5,6 +5,7 @@ mod Meeting
 mod Calling
 mod Holding
 mod OwnMoves
+mod Crossings
 mod Owning
 mod Knowing
 mod Ruling
@@ -49,6 +50,7 @@ pub mod WakesActs
 pub mod Viewing
 pub mod NextTaken
 pub mod LotStarts
+mod BucketNumbers
 pub mod ScanRoom
 pub mod RwKeeping
 pub mod RwCrossing

@@ -1,5 +1,5 @@
 -- Each act keeps what fits of the lot.
-use Rattle.std.proofs.Common.{◌≡◌, ◌<◌, ℕ, ◌+◌, ◌%◌, ◌^◌, ◌==◌, ◌⊎◌, Bool, true, false, cond, bit_and, [], remove}
+use Rattle.std.proofs.Common.{◌≡◌, ◌<◌, ℕ, ◌+◌, ◌%◌, ◌^◌, ◌==◌, ◌⊎◌, inl, inr, Bool, true, false, cond, bit_and, [], remove}
 use Rattle.std.proofs.Common.{Option, Some, None, length, slice_get, slice_set, refl, sym, ap, ◌∙◌, subst, arith}
 use Rattle.std.specs.List.{position_or_len}
 use Rattle.std.proofs.lemmas.Bool.{eqb-false, eqb-true}
@@ -17,11 +17,14 @@ use Rattle.parking_lot_protocol.specs.declared.act.ActResult.TheVariants as seen
 use Rattle.parking_lot_protocol.specs.declared.act.WordChange.{WordChange}
 use Rattle.parking_lot_machine_calls.specs.declared.open_call.Call.{Call}
 use Rattle.parking_lot_machine_calls.specs.declared.seat.Wakeup.{Wakeup}
-use Rattle.parking_lot_machine.specs.Rows.{State, word_at, call_at, is_by, taken_by}
-use Rattle.parking_lot_machine_calls.specs.Stances.{Joins, Joined, Takes, Stores, In, stance, taken_count, core_tells}
+use Rattle.parking_lot_machine.specs.Rows.{State, word_at, call_at, is_by, open_at, taken_by}
+use Rattle.parking_lot_machine_calls.specs.Stances.{Stance, TurnsBack, Joins, Joined, Takes, Stores, Tells, In, stance}
+use Rattle.parking_lot_machine_calls.specs.Stances.{taken_count, core_tells}
 use Rattle.parking_lot_machine_calls.specs.Stances.{sign}
-use Rattle.parking_lot_machine_calls.specs.StanceLaws.{Counts, IsOver}
-use Rattle.parking_lot_machine.specs.RowActs.{with_call, with_word, with_lot, settles, loaded, exchanged, added, masked}
+use Rattle.parking_lot_machine_calls.specs.StanceLaws.{Counts, IsOver, LeavesFor}
+use Rattle.parking_lot_core_model.specs.Machine.{closed}
+use Rattle.parking_lot_core_model.specs.Sound.{Sound}
+use Rattle.parking_lot_machine.specs.RowActs.{key_in, with_call, with_word, with_lot, settles, loaded, exchanged, added, masked}
 use Rattle.parking_lot_machine.specs.RowActs.{spun, entered, checked, appended, took, took_nobody, told_all, left, woke}
 use Rattle.parking_lot_machine.specs.RowActs.{woke_nobody, answered, begun}
 use Rattle.parking_lot_machine_calls.specs.CallActs.{hears, key_of, told_of, joins}
@@ -75,10 +78,10 @@ adds s t c by h here is =
 spins : (s : State) (t : ℕ) (c : Call) → Keeps s t c Act.Spin (spun s t c)
 spins s t c h here is = stays_out s t c (seen.Spun true) h here (leads_by c.core Act.Spin 0 (seen.Spun true) is tt)
 
-enters : (s : State) (t : ℕ) (c : Call) (k : ℕ) → s.lot.section ≡ None → Keeps s t c (Act.Enter k) (entered s t c k)
+enters : (s : State) (t : ℕ) (c : Call) (k : ℕ) → open_at s (key_of c k) ≡ None → Keeps s t c (Act.Enter k) (entered s t c k)
 enters s t c k free h here is =
     let x = leads_by c.core (Act.Enter k) 0 seen.Entered is tt in
-    entered_fits s t c h here k free (entered_sound s t c h here k x.0) x.0 x.1 x.2
+    entered_fits s t c h here k free (entered_sound s t c h here k x.0 free) x.0 x.1 x.2
     (others_free c.core (Act.Enter k) is refl)
 
 checks : (s : State) (t : ℕ) (c : Call) → Keeps s t c (Act.Section section.Check) (checked s t c)
@@ -103,13 +106,13 @@ takes_nobody s t c (Act.Section section.TakeFirst) k taking from h here is =
     tt in
     let same : x.0 ≡ k = same_takes (sym x.1 ∙ from) in
     took_nobody_fits s t c k h here from (x.2.0 ∙ ap (λ (j : ℕ). In j Stores) same) x.2.1
-    (took_nobody_sound s t c h here)
+    (took_nobody_sound s t c h here k)
 takes_nobody s t c (Act.Section (section.TakeNext sum)) k taking from h here is =
     let x = leads_by c.core (Act.Section (section.TakeNext sum)) 0
     (seen.Took None (is_left (s.lot.queues (key_of c k)))) is tt in
     let same : x.0 ≡ k = same_takes (sym x.1 ∙ from) in
     took_nobody_fits s t c k h here from (x.2.0 ∙ ap (λ (j : ℕ). In j Stores) same) x.2.1
-    (took_nobody_sound s t c h here)
+    (took_nobody_sound s t c h here k)
 takes_nobody s t c a k taking from h here is = absurd taking
 
 gives_took : (a : Act) (told : Option ParkToken) (left : Bool) → IsTaking a → Gives a 0 (seen.Took told left)
@@ -139,7 +142,7 @@ stores s t c plain fair change is_fair h here is =
     worded (with_lot (settles (with_call s t d) t (told_of (core_tells d.core))) (told_all s t c change is_fair).lot)
     c.lock (change_of change (word_at s c.lock))
     (stores_fit s t c d h here x.0 (core_tells d.core) refl x.1 x.2 x.3 (wakes_some c.core (seen.Stored is_fair))
-    (stored_sound s t c h here (core_tells d.core)))
+    (stored_sound s t c h here (key_in c) (core_tells d.core)))
 
 masks : (s : State) (t : ℕ) (c : Call) (keep : ℕ) → Keeps s t c (Act.FetchAnd keep) (masked s t c keep)
 masks s t c keep h here is =
@@ -148,11 +151,17 @@ masks s t c keep h here is =
     worded (with_lot (settles (with_call s t (hears c told)) t (told_of (sign false))) (masked s t c keep).lot) c.lock
     (bit_and (word_at s c.lock) keep)
     (stores_fit s t c (hears c told) h here x.0 (sign false) refl x.1 x.2 x.3 (wakes_some c.core told)
-    (stored_sound s t c h here (sign false)))
+    (stored_sound s t c h here (key_in c) (sign false)))
 
 leaves : (s : State) (t : ℕ) (c : Call) → Keeps s t c (Act.Section section.Leave) (left s t c)
-leaves s t c h here is = left_fits s t c h here (left_sound s t c h here)
-    (leads_by c.core (Act.Section section.Leave) 0 seen.Made is tt)
+leaves s t c h here is =
+    let x = leads_by c.core (Act.Section section.Leave) 0 seen.Made is tt in
+    left_fits s t c h here (sound_by x) x
+  where
+    sound_by : {b : Stance} {n m : ℕ} → LeavesFor (stance c.core) b n m → Sound (closed s.lot (key_in c) false)
+    sound_by (inl l) = left_sound s t c h here l.0 TurnsBack l.1
+    sound_by (inr (inl l)) = left_sound s t c h here l.0 (Joined l.1) l.2
+    sound_by (inr (inr l)) = left_sound s t c h here l.0 (Tells l.1) l.2
 
 -- who is to wake another is told by whom
 pub by_first : (s : State) (t : ℕ) (e : Wakeup) → slice_get s.wakes (position_or_len (is_by t) s.wakes) ≡ Some e
@@ -166,7 +175,7 @@ wakes s t c e d token first there h here is =
     let x = leads_by c.core (Act.Section section.Wake) 0 seen.Made is tt in
     let due = due_place s t c h here e d first (by_first s t e first) there x.0 in
     woke_fits s t c h here e d first (by_first s t e first) there x.0 token x.1 x.2
-    (woke_sound s h e.thread (Taken due.0 due.1 false) due.2 (λ k. refl))
+    (woke_sound s h e.thread (Taken due.0 due.1 due.2 false) due.3 (λ k. refl))
 
 wakes_nobody : (s : State) (t : ℕ) (c : Call) → taken_by s.wakes t ≡ [] → Keeps s t c (Act.Section section.Wake)
     (woke_nobody s t c)

@@ -1,11 +1,10 @@
 -- One that is to wake others, which have gone on by themselves, wakes nobody: what fits of the lot still fits.
-use Rattle.std.proofs.Common.{◌≡◌, ◌<◌, ◌≤◌, ℕ, ◌+◌, ◌*◌, ◌==◌, false, List, [], length, Some, slice_get, refl, sym, ap}
+use Rattle.std.proofs.Common.{◌≡◌, ◌<◌, ◌≤◌, ℕ, ◌+◌, ◌*◌, ◌==◌, false, List, [], length, Some, None, slice_get, refl, sym, ap}
 use Rattle.std.proofs.Common.{◌∙◌, subst, arith}
 use Rattle.std.proofs.lemmas.Bool.{ne_eqb}
 use Rattle.parking_lot_core_model.specs.declared.parking.ParkToken.{ParkToken}
 use Rattle.parking_lot_core_model.specs.declared.place.Waiter.{Waiter}
-use Rattle.parking_lot_core_model.specs.Places.{place_at}
-use Rattle.parking_lot_core_model.proofs.Sounds.{by_eqb}
+use Rattle.parking_lot_core_model.proofs.Kept.{by_eqb}
 use Rattle.parking_lot_machine_calls.specs.declared.seat.WakeResult.{WakeResult}
 use Rattle.parking_lot_machine_calls.specs.declared.seat.QueuePosition.{QueuePosition}
 use Rattle.parking_lot_machine_calls.specs.declared.open_call.Call.{Call}
@@ -90,12 +89,17 @@ module _ (s : State) (t : ℕ) (c d : Call) (h : LotFits s) (here : call_at s t 
   nobody_fits = record {
     sound = h.sound;
     seated = seats_one s t h low (Some d) s.lot
-        (sits t d Out (place_at s.lot.places t) s.lot.section to (seat_of s h t c Out here from))
+        (sits t d Out s.lot to (seat_of s h t c Out here from))
         (λ v e x. x);
-    opened = λ section at. let o = h.opened section at in
+    opened = λ b section at. let o = h.opened b section at in
         (o.0, o.1, subst (λ (n : ℕ). o.0 < n) (sym (same_length s t h low (Some d) s.lot)) o.2);
     waits = nobody_waits;
     owed = nobody_owed;
+    outside = λ x j z token by said y key sleep at asleep off place. by_eqb x t (s.lot.inside by ≡ None)
+        (λ e. absurd (out_asleep
+        (sym to ∙ (ap (λ (y : Call). stance y.core) (same_call (sym there ∙ (ap (call_at u) (sym e) ∙ at)))
+        ∙ asleep))))
+        (λ e. h.outside x j z token by said y key sleep (sym (apart x e) ∙ at) asleep off place);
     woken = nobody_woken;
     once = h.once;
     counted = λ x z at. subst (Tallied (length u.calls) (length (taken_by u.wakes x))) at (now x);

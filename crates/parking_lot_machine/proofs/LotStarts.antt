@@ -6,16 +6,14 @@ use Rattle.parking_lot_core_model.specs.declared.place.Place.{Place}
 use Rattle.parking_lot_core_model.specs.declared.place.Place.TheVariants.{Running}
 use Rattle.parking_lot_core_model.specs.declared.place.Waiter.{Waiter}
 use Rattle.parking_lot_core_model.specs.Machine.{Machine, registered, free_number}
-use Rattle.parking_lot_core_model.specs.Places.{place_at}
 use Rattle.parking_lot_core_model.specs.Sound.{Sound}
 use Rattle.parking_lot_core_model.proofs.Numbers.{flag, count_by-cons}
-use Rattle.parking_lot_core_model.proofs.Sounds.{none≢some}
+use Rattle.parking_lot_core_model.proofs.Entering.{none≢some}
 use Rattle.parking_lot_machine_calls.specs.declared.open_call.Call.{Call}
 use Rattle.parking_lot_machine_calls.specs.declared.seat.Wakeup.{Wakeup}
 use Rattle.parking_lot_machine.specs.Rows.{State, call_at, taken_by}
-use Rattle.parking_lot_machine.specs.RowFits.{Seated, LotFits, WakesFit, is_away}
+use Rattle.parking_lot_machine.specs.RowFits.{SeatedIn, LotFits, WakesFit, is_away}
 use Rattle.parking_lot_machine.specs.LotLaws.{IsNew}
-use Rattle.parking_lot_machine.proofs.LotActs.{outside_none}
 
 -- where nobody is in a call nobody is away
 nobody_away : (calls : List (Option Call)) → ((t : ℕ) → option_and_then (λ x. x) (slice_get calls t) ≡ None)
@@ -38,12 +36,13 @@ module _ (s : State) (sound : Sound s.lot) (new : IsNew s) where
   new_fits : LotFits s
   new_fits = record {
     sound = sound;
-    seated = λ t low. subst (λ (o : Option Call). Seated t o (place_at s.lot.places t) s.lot.section)
-        (sym (new.calls t)) (new.runs t low, outside_none s.lot.section t new.free);
-    opened = λ o is. absurd (none≢some (sym new.free ∙ is));
+    seated = λ t low. subst (λ (o : Option Call). SeatedIn s.lot t o) (sym (new.calls t))
+        (new.runs t low, new.outside t);
+    opened = λ b o is. absurd (none≢some (sym (new.free b) ∙ is));
     waits = λ j k n w two at. absurd
         (none≢some (ap (λ (ws : List Waiter). slice_get ws n) (sym (new.lists (2 * j + k))) ∙ at));
     owed = λ t c key token by said is asleep off. no_call t c is;
+    outside = λ t k c token by said x key sleep is asleep off place. no_call t c is;
     woken = λ n e at. no_wakeup n e at;
     once = λ n m e f at at' same. no_wakeup n e at;
     counted = λ t c is. no_call t c is;
@@ -62,7 +61,7 @@ new_machines_fit s sound new = (new_fits s sound new, new_wakes s sound new)
 
 -- THREADS THAT ARE REGISTERED
 
-next_number : (n : ℕ) → free_number (replicate n (Some Running)) ≡ n
+pub next_number : (n : ℕ) → free_number (replicate n (Some Running)) ≡ n
 next_number zero = refl
 next_number (suc n) = ap (λ k. 1 + k) (next_number n) ∙ one_more n
   where

@@ -1,35 +1,38 @@
 -- Taking a waiter off its list keeps what fits of the lot.
 use Rattle.std.proofs.Common.{◌≡◌, ◌≤◌, ◌<◌, ℕ, ◌+◌, ◌*◌, ◌==◌, ◌⊎◌, inl, inr, false, List, [], ◌∷◌, length, remove}
-use Rattle.std.proofs.Common.{Option, Some, slice_get, slice_set, count_by, refl, sym, ap, ◌∙◌, subst, arith, eq-eqb}
+use Rattle.std.proofs.Common.{Option, Some, None, slice_get, slice_set, count_by, refl, sym, ap, ◌∙◌, subst, arith, eq-eqb}
 use Rattle.std.specs.Option.{option_map, option_map_or}
 use Rattle.std.proofs.lemmas.Bool.{ne_eqb, eqb-false}
 use Rattle.parking_lot_core_model.specs.declared.parking.ParkToken.{ParkToken}
+use Rattle.parking_lot_core_model.specs.declared.parking.UnparkToken.{UnparkToken}
 use Rattle.parking_lot_core_model.specs.declared.place.Place.{Place}
-use Rattle.parking_lot_core_model.specs.declared.place.Place.TheVariants.{Running, Waiting, Held}
+use Rattle.parking_lot_core_model.specs.declared.place.Place.TheVariants.{Running, Waiting, Held, Taken}
 use Rattle.parking_lot_core_model.specs.declared.place.Phase.TheVariants as phase
 use Rattle.parking_lot_core_model.specs.declared.place.Section.{Section}
 use Rattle.parking_lot_core_model.specs.declared.place.Sleep.{Sleep}
 use Rattle.parking_lot_core_model.specs.declared.place.Waiter.{Waiter}
-use Rattle.parking_lot_core_model.specs.Machine.{is_thread}
+use Rattle.parking_lot_core_model.specs.Lists.{updated}
+use Rattle.parking_lot_core_model.specs.Machine.{Machine, is_thread, taken}
+use Rattle.parking_lot_core_model.specs.Machine as core_lot
 use Rattle.parking_lot_core_model.specs.Places.{place_at, mark_of, held, changed}
 use Rattle.parking_lot_core_model.specs.Results.{is_left}
 use Rattle.parking_lot_core_model.specs.Sound.{Sound, times_at}
 use Rattle.std.proofs.lemmas.List.{length-set}
-use Rattle.parking_lot_core_model.proofs.Kept.{updated_at, updated_other, slice_get-seam, eqb_false_symm}
+use Rattle.parking_lot_core_model.proofs.Kept.{by_eqb, updated_at, updated_other, slice_get-seam, eqb_false_symm}
 use Rattle.parking_lot_core_model.proofs.Numbers.{flag, count_by-at, count_by-push}
-use Rattle.parking_lot_core_model.proofs.Sounds.{by_eqb, place_at-set_same, place_at-set_other}
+use Rattle.parking_lot_core_model.proofs.Sounds.{place_at-set_same, place_at-set_other}
 use Rattle.parking_lot_protocol.specs.declared.act.ActResult.TheVariants as seen
 use Rattle.parking_lot_machine_calls.specs.declared.seat.WakeResult.{WakeResult}
 use Rattle.parking_lot_machine_calls.specs.declared.seat.QueuePosition.{QueuePosition}
 use Rattle.parking_lot_machine_calls.specs.declared.open_call.Call.{Call}
 use Rattle.parking_lot_machine_calls.specs.declared.seat.Wakeup.{Wakeup}
-use Rattle.parking_lot_machine.specs.Rows.{State, call_at, is_by, taken_by}
+use Rattle.parking_lot_machine.specs.Rows.{State, call_at, is_by, open_at, taken_by}
 use Rattle.parking_lot_machine_calls.specs.Stances.{Doing, Looks, TurnsBack, Joins, Joined, Takes, Stores, Tells}
 use Rattle.parking_lot_machine_calls.specs.Stances.{Stance, Out, In, Asleep, stance, taken_count}
 use Rattle.parking_lot_machine.specs.RowActs.{took}
 use Rattle.parking_lot_machine_calls.specs.CallActs.{hears, key_of, off_list}
-use Rattle.parking_lot_machine.specs.RowFits.{IsAt, IsCounted, IsInside, Stands, Seated, Awaits, IsTaken, IsOwed}
-use Rattle.parking_lot_machine.specs.RowFits.{WakesSome, LotFits}
+use Rattle.parking_lot_machine.specs.RowFits.{IsAt, IsCounted, IsInside, Stands, SeatedIn, Awaits, IsTaken, IsOwed}
+use Rattle.parking_lot_machine.specs.RowFits.{TakersAreOut, WakesSome, LotFits}
 use Rattle.parking_lot_machine.proofs.Indexing.{get_push, get_front, get_remove}
 use Rattle.parking_lot_machine_calls.proofs.Stancing.{wakes_some}
 use Rattle.parking_lot_machine.proofs.Carrying.{same_call, call_within, set_elsewhere, Tallied, tallied, taken_by-count}
@@ -37,8 +40,14 @@ use Rattle.parking_lot_machine.proofs.Carrying.{no_length, awake_sleeps}
 use Rattle.parking_lot_rules.proofs.Slots.{set_there}
 use Rattle.parking_lot_machine.proofs.WakesRoom.{wakes_few}
 use Rattle.std.proofs.lemmas.List.Sums.{count_by-le-length}
-use Rattle.parking_lot_machine.proofs.LotActs.{same_section, outside_of, seat_of, awake_by, sits, seats_still}
-use Rattle.parking_lot_machine.proofs.LotActs.{still_said}
+use Rattle.parking_lot_machine.proofs.LotActs.{same_number, same_section, seat_of, awake_by, sits, seats_still}
+use Rattle.parking_lot_machine.proofs.LotActs.{lot_with_at, now_at, open_which, phase_as, still_said}
+
+in_asleep : {k j : ℕ} {how : Doing} {token : ParkToken} → In k how ≡ Asleep j token → ⊥
+in_asleep e = cc
+
+held_taken : {a b : ℕ} {x y : Sleep} {token : UnparkToken} → Some (Held a x) ≡ Some (Taken token b y false) → ⊥
+held_taken e = cc
 
 -- who waits has joined the list, or sleeps
 awaits_how : (k : ℕ) (token : ParkToken) (a : Stance) → Awaits k token a → (a ≡ In k (Joined token))
@@ -83,11 +92,13 @@ sleeper s t c h here k nth w two from at =
     go x there lock listed other (inl e) =
         let mine = seat_of s h t c (In k Takes) here from in
         let its = seat_of s h w.thread x (In k (Joined w.token)) there e in
-        absurd (outside_of s.lot.section mine.0 t w.thread other mine.1 mine.2 its.0 its.1 its.2)
+        absurd (eqb-false w.thread t other
+        (same_number (sym its.2 ∙ (ap (λ (z : Section). z.thread)
+        (same_section (sym its.1 ∙ (ap (λ (n : ℕ). open_at s (2 * n + k)) lock ∙ mine.1))) ∙ mine.2))))
     go x there lock listed other (inr e) =
         let its = seat_of s h w.thread x (Asleep k w.token) there e in
         let place = subst
-        (λ (a : QueuePosition). IsAt a (place_at s.lot.places w.thread) s.lot.section (2 * x.lock + k)) listed its.0
+        (λ (a : QueuePosition). IsAt a (place_at s.lot.places w.thread) (open_at s) (2 * x.lock + k)) listed its.0
         in
         record {
           call = x;
@@ -123,18 +134,19 @@ module _ (s : State) (t : ℕ) (c : Call) (h : LotFits s) (here : call_at s t �
   off = off_list t (sleeper s t c h here k nth w two from at).call
 
   -- the places
-  pub took_places : u.lot.places ≡ slice_set s.lot.places v (Some (Held z.sleep))
+  pub took_places : u.lot.places ≡ slice_set s.lot.places v (Some (Held (key_of c k) z.sleep))
   took_places =
-      ap (λ (o : Option Waiter). option_map_or (λ (x : Waiter). changed held s.lot.places x.thread) o s.lot.places) at
-      ∙ ap (λ (p : Option Place). slice_set s.lot.places v (option_map held p)) z.place
+      ap (λ (o : Option Waiter). option_map_or (λ (x : Waiter). changed (held (key_of c k)) s.lot.places x.thread) o
+      s.lot.places) at
+      ∙ ap (λ (p : Option Place). slice_set s.lot.places v (option_map (held (key_of c k)) p)) z.place
 
-  place_taken : place_at u.lot.places v ≡ Some (Held z.sleep)
+  place_taken : place_at u.lot.places v ≡ Some (Held (key_of c k) z.sleep)
   place_taken = ap (λ (ps : List (Option Place)). place_at ps v) took_places
-      ∙ place_at-set_same s.lot.places v (Waiting (2 * c.lock + k) z.sleep) (Some (Held z.sleep)) z.place
+      ∙ place_at-set_same s.lot.places v (Waiting (2 * c.lock + k) z.sleep) (Some (Held (key_of c k) z.sleep)) z.place
 
   place_other : (x : ℕ) → (x == v) ≡ false → place_at u.lot.places x ≡ place_at s.lot.places x
   place_other x e = ap (λ (ps : List (Option Place)). place_at ps x) took_places
-      ∙ place_at-set_other s.lot.places v x (Some (Held z.sleep)) e
+      ∙ place_at-set_other s.lot.places v x (Some (Held (key_of c k) z.sleep)) e
 
   -- the calls
   pub call_taken : call_at u v ≡ Some off
@@ -193,34 +205,52 @@ module _ (s : State) (t : ℕ) (c : Call) (h : LotFits s) (here : call_at s t �
 
   module _ (how : Doing) (to : stance takes.core ≡ In k how) (counts : taken_count takes.core ≡ taken_count c.core + 1)
       (sound : Sound u.lot)
-      (own : (o : Section) → o.thread ≡ Some t → o.key ≡ key_of c k → place_at s.lot.places t ≡ Some Running
-      → Stands t c.lock (In k how) c.spot (place_at s.lot.places t) (Some (record o { phase = phase.Taking nth })))
+      (own : (o : Section) (secs : ℕ → Option Section)
+      → secs (key_of c k) ≡ Some (record o { phase = phase.Taking nth }) → o.thread ≡ Some t → o.key ≡ key_of c k
+      → place_at s.lot.places t ≡ Some Running → s.lot.inside t ≡ Some (key_of c k)
+      → Stands t c.lock (In k how) c.spot (place_at s.lot.places t) (s.lot.inside t) secs)
     where
-      took_seated : (x : ℕ) → x < length u.calls → Seated x (call_at u x) (place_at u.lot.places x) u.lot.section
+      abbrev took_queues : ℕ → List Waiter
+      took_queues = updated s.lot.queues (key_of c k) (remove (s.lot.queues (key_of c k)) nth)
+
+      abbrev took_lot : Section → Machine
+      took_lot o' = lot_with_at s (key_of c k) s.lot.sleeps took_queues u.lot.places (Some o') s.lot.inside
+
+      took_lot_as : (o : Section) → open_at s (key_of c k) ≡ Some o
+          → u.lot ≡ took_lot (record o { phase = phase.Taking nth })
+      took_lot_as o was = ap (λ (m : Machine). taken m (key_of c k) nth)
+          (phase_as s (key_of c k) o (phase.Taking nth) was)
+
+      took_seated : (x : ℕ) → x < length u.calls → SeatedIn u.lot x (call_at u x)
       took_seated x within =
           let seat = seat_of s h t c (In k Takes) here from in
           let o : Section = seat.0 in
           let o' : Section = record o { phase = phase.Taking nth } in
-          let is : u.lot.section ≡ Some o' = ap (option_map {T = Section} (λ y. record y { phase = phase.Taking nth }))
-          seat.1 in
-          by_eqb x t (Seated x (call_at u x) (place_at u.lot.places x) u.lot.section)
-          (λ e. subst (λ (y : ℕ). Seated y (call_at u y) (place_at u.lot.places y) u.lot.section) (sym e)
-          (subst (λ (d : Option Call). Seated t d (place_at u.lot.places t) u.lot.section) (sym call_mine)
-          (subst (λ (p : Option Place). Seated t (Some takes) p u.lot.section)
+          let on : Machine = took_lot o' in
+          let open_on : core_lot.open_at on (key_of c k) ≡ Some o' =
+          now_at s t c takes h here (key_of c k) o o' seat.1 seat.2 seat.2 s.lot.sleeps took_queues u.lot.places in
+          subst (λ (m : Machine). SeatedIn m x (call_at u x)) (sym (took_lot_as o seat.1))
+          (by_eqb x t (SeatedIn on x (call_at u x))
+          (λ e. subst (λ (y : ℕ). SeatedIn on y (call_at u y)) (sym e)
+          (subst (λ (d : Option Call). SeatedIn on t d) (sym call_mine)
+          (sits t takes (In k how) on to
+          (subst (λ (p : Option Place). Stands t c.lock (In k how) c.spot p (s.lot.inside t) (core_lot.open_at on))
           (sym (place_other t (eqb_false_symm v t z.other)))
-          (subst (λ (y : Option Section). Seated t (Some takes) (place_at s.lot.places t) y) (sym is)
-          (sits t takes (In k how) (place_at s.lot.places t) (Some o') to (own o seat.2 seat.3 seat.5))))))
-          (λ e. by_eqb x v (Seated x (call_at u x) (place_at u.lot.places x) u.lot.section)
-          (λ f. subst (λ (y : ℕ). Seated y (call_at u y) (place_at u.lot.places y) u.lot.section) (sym f)
-          (subst (λ (d : Option Call). Seated v d (place_at u.lot.places v) u.lot.section) (sym call_taken)
-          (sits v off (Asleep k w.token) (place_at u.lot.places v) u.lot.section z.asleep (
-            (z.sleep, z.late, inl (place_taken, o', is, seat.2, inr (refl, refl))),
-            outside_of u.lot.section o' t v z.other is seat.2,
-          ))))
-          (λ f. subst (λ (d : Option Call). Seated x d (place_at u.lot.places x) u.lot.section) (sym (call_other x e f))
-          (seats_still s t c takes h here u.lot o o' seat.1 is seat.2 seat.2 x e (place_other x f)
+          (own o (core_lot.open_at on) open_on seat.2 seat.3 seat.5 seat.6)))))
+          (λ e. by_eqb x v (SeatedIn on x (call_at u x))
+          (λ f. subst (λ (y : ℕ). SeatedIn on y (call_at u y)) (sym f)
+          (subst (λ (d : Option Call). SeatedIn on v d) (sym call_taken)
+          (sits v off (Asleep k w.token) on z.asleep
+          (subst (λ (j : ℕ). Stands v j (Asleep k w.token) (QueuePosition.Off t WakeResult.Nothing)
+          (place_at u.lot.places v) (s.lot.inside v) (core_lot.open_at on)) (sym z.lock) (
+            (z.sleep, z.late, inl (place_taken, o', open_on, seat.2, inr (refl, refl))),
+            (seat_of s h v z.call (Asleep k w.token) z.there z.asleep).1,
+          )))))
+          (λ f. subst (λ (d : Option Call). SeatedIn on x d) (sym (call_other x e f))
+          (seats_still s t c takes h here (key_of c k) o o' seat.1 seat.2 seat.2 s.lot.sleeps took_queues u.lot.places x e
+          (place_other x f)
           (λ j token y by said by_t at' asleep off' in_it. still_said o (phase.Taking nth) said seat.4 refl in_it)
-          (h.seated x (subst (λ (n : ℕ). x < n) took_length within)))))
+          (h.seated x (subst (λ (n : ℕ). x < n) took_length within))))))
 
       -- the one that was taken is in no list
       gone : (j l n : ℕ) (x : Waiter) → slice_get (u.lot.queues (2 * j + l)) n ≡ Some x → (x.thread == v) ≡ false
@@ -283,6 +313,15 @@ module _ (s : State) (t : ℕ) (c : Call) (h : LotFits s) (here : call_at s t �
             where
               go : In k how ≡ Asleep j token → ⊥
               go g = cc
+
+      took_outside : TakersAreOut u u.lot
+      took_outside x j d token by said y key sleep is asleep off' place = by_eqb x t (s.lot.inside by ≡ None)
+          (λ e. absurd (in_asleep (sym to
+          ∙ (ap (λ (y : Call). stance y.core) (same_call (sym call_mine ∙ (ap (call_at u) (sym e) ∙ is))) ∙ asleep))))
+          (λ e. by_eqb x v (s.lot.inside by ≡ None)
+          (λ f. absurd (held_taken (sym place_taken ∙ (ap (place_at u.lot.places) (sym f) ∙ place))))
+          (λ f. h.outside x j d token by said y key sleep (sym (call_other x e f) ∙ is) asleep off'
+          (sym (place_other x f) ∙ place)))
 
       took_woken : (n : ℕ) (e : Wakeup) → slice_get u.wakes n ≡ Some e → IsTaken u e
       took_woken n e is = go (get_push s.wakes entry n e is)
@@ -387,17 +426,22 @@ module _ (s : State) (t : ℕ) (c : Call) (h : LotFits s) (here : call_at s t �
       took_as : LotFits u
       took_as =
           let seat = seat_of s h t c (In k Takes) here from in
-          let is = ap (option_map {T = Section} (λ y. record y { phase = phase.Taking nth })) seat.1 in
+          let o : Section = seat.0 in
+          let o' : Section = record o { phase = phase.Taking nth } in
+          let its : (x : Section) → Some o ≡ Some x → x.thread ≡ Some t =
+          λ x e. ap (λ (y : Section). y.thread) (sym (same_section e)) ∙ seat.2 in
+          let its' : (x : Section) → Some o' ≡ Some x → x.thread ≡ Some t =
+          λ x e. ap (λ (y : Section). y.thread) (sym (same_section e)) ∙ seat.2 in
           record {
             sound = sound;
             seated = took_seated;
-            opened = λ section sec. (
-              t,
-              ap (λ (y : Section). y.thread) (sym (same_section (sym is ∙ sec))) ∙ seat.2,
-              subst (λ (n : ℕ). t < n) (sym took_length) (call_within s t c here),
-            );
+            opened = λ b section sec.
+                let x = open_which s t h (key_of c k) (Some o) (Some o') seat.1 its (call_within s t c here) its' b
+                section (sym (ap (λ (m : Machine). m.sections b) (took_lot_as o seat.1)) ∙ sec) in
+                (x.0, x.1, subst (λ (n : ℕ). x.0 < n) (sym took_length) x.2);
             waits = took_waits;
             owed = took_owed;
+            outside = took_outside;
             woken = took_woken;
             once = took_once;
             counted = λ x d there. subst (Tallied (length u.calls) (length (taken_by u.wakes x))) there (took_tally x);
@@ -410,7 +454,7 @@ module _ (s : State) (t : ℕ) (c : Call) (h : LotFits s) (here : call_at s t �
       → taken_count takes.core ≡ taken_count c.core + 1 → Sound u.lot → LotFits u
   took_fits (inl to) counts sound =
       took_as Takes to counts sound
-      (λ o whose key runs. (record o { phase = phase.Taking nth }, refl, whose, key, refl, runs))
+      (λ o secs at' whose key runs in_it. (record o { phase = phase.Taking nth }, at', whose, key, refl, runs, in_it))
   took_fits (inr to) counts sound =
       took_as Stores to counts sound
-      (λ o whose key runs. (record o { phase = phase.Taking nth }, refl, whose, key, refl, runs))
+      (λ o secs at' whose key runs in_it. (record o { phase = phase.Taking nth }, at', whose, key, refl, runs, in_it))

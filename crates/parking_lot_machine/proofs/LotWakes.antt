@@ -1,5 +1,5 @@
 -- Waking one that was taken keeps what fits of the lot.
-use Rattle.std.proofs.Common.{◌≡◌, ◌<◌, ℕ, ◌+◌, ◌-◌, ◌*◌, ◌==◌, ◌⊎◌, inl, inr, false, length, Option, Some, slice_get}
+use Rattle.std.proofs.Common.{◌≡◌, ◌<◌, ℕ, ◌+◌, ◌-◌, ◌*◌, ◌==◌, ◌⊎◌, inl, inr, false, length, Option, Some, None, slice_get}
 use Rattle.std.proofs.Common.{slice_set, refl, sym, ap, ◌∙◌, subst, arith, eq-eqb}
 use Rattle.std.specs.List.{position_or_len}
 use Rattle.std.specs.Option.{option_map_or}
@@ -16,24 +16,25 @@ use Rattle.parking_lot_core_model.specs.Places.{place_at, mark_of}
 use Rattle.parking_lot_core_model.specs.Sound.{Sound}
 use Rattle.parking_lot_core_model.proofs.Kept.{eqb_false_symm}
 use Rattle.parking_lot_core_model.proofs.Numbers.{flag}
-use Rattle.parking_lot_core_model.proofs.Sounds.{by_eqb, place_at-set_same, place_at-set_other}
+use Rattle.parking_lot_core_model.proofs.Kept.{by_eqb}
+use Rattle.parking_lot_core_model.proofs.Sounds.{place_at-set_same, place_at-set_other}
 use Rattle.parking_lot_protocol.specs.declared.act.ActResult.TheVariants as seen
 use Rattle.parking_lot_machine_calls.specs.declared.seat.WakeResult.{WakeResult}
 use Rattle.parking_lot_machine_calls.specs.declared.seat.QueuePosition.{QueuePosition}
 use Rattle.parking_lot_machine_calls.specs.declared.open_call.Call.{Call}
 use Rattle.parking_lot_machine_calls.specs.declared.seat.Wakeup.{Wakeup}
-use Rattle.parking_lot_machine.specs.Rows.{State, call_at, is_by, taken_by}
+use Rattle.parking_lot_machine.specs.Rows.{State, bucket, call_at, is_by, open_at, taken_by}
 use Rattle.parking_lot_machine_calls.specs.Stances.{Out, Asleep, stance, taken_count}
 use Rattle.parking_lot_machine.specs.RowActs.{woke}
 use Rattle.parking_lot_machine_calls.specs.CallActs.{hears, told_of}
-use Rattle.parking_lot_machine.specs.RowFits.{IsAt, IsCounted, IsInside, IsOutside, SaidIn, Seated, Awaits, IsTaken}
-use Rattle.parking_lot_machine.specs.RowFits.{IsOwed, WakesSome, LotFits}
+use Rattle.parking_lot_machine.specs.RowFits.{IsAt, IsCounted, IsInside, SaidIn, Seated, SeatedIn, Awaits, IsTaken}
+use Rattle.parking_lot_machine.specs.RowFits.{IsOwed, TakersAreOut, WakesSome, LotFits}
 use Rattle.parking_lot_machine_calls.proofs.Stancing.{sleepers_wake, wakes_some}
 use Rattle.parking_lot_machine.proofs.Indexing.{get_remove, kept_remove, apart_before, not_removed}
 use Rattle.parking_lot_machine.proofs.Carrying.{same_call, call_within, set_elsewhere, Tallied, dropped, tallied}
 use Rattle.parking_lot_machine.proofs.Carrying.{no_length}
 use Rattle.parking_lot_rules.proofs.Slots.{set_there}
-use Rattle.parking_lot_machine.proofs.LotActs.{seat_of, sits}
+use Rattle.parking_lot_machine.proofs.LotActs.{no_section, seat_of, sits}
 
 same_wakeup : {e f : Wakeup} → Some e ≡ Some f → e ≡ f
 same_wakeup e = cc
@@ -59,37 +60,38 @@ module _ (s : State) (t : ℕ) (c : Call) (h : LotFits s) (here : call_at s t �
       )
 
   -- it was told, and isn't woken yet
-  pub due_place : (token : UnparkToken) × (sleep : Sleep)
-      × (place_at s.lot.places e.thread ≡ Some (Taken token sleep false)) × (sleep.late ≡ false) × (sleep.mark ≡ e.mark)
+  pub due_place : (token : UnparkToken) × (key : ℕ) × (sleep : Sleep)
+      × (place_at s.lot.places e.thread ≡ Some (Taken token key sleep false)) × (sleep.late ≡ false)
+      × (sleep.mark ≡ e.mark)
       × (woken_off.0 ≡ told_of token)
   due_place =
       let x = woken_off in
       let mine = seat_of s h t c Out here from in
       let its = seat_of s h e.thread d (Asleep x.1 x.2) there x.4 in
       go x.0 mine.1 (2 * d.lock + x.1)
-      (subst (λ (a : QueuePosition). IsAt a (place_at s.lot.places e.thread) s.lot.section (2 * d.lock + x.1)) x.3
-      its.0)
+      (subst (λ (a : QueuePosition). IsAt a (place_at s.lot.places e.thread) (open_at s) (2 * d.lock + x.1)) x.3 its.0)
     where
-      marked : (token : UnparkToken) (sleep : Sleep) → place_at s.lot.places e.thread ≡ Some (Taken token sleep false)
-          → sleep.mark ≡ e.mark
-      marked token sleep place = sym (ap (λ (p : Option Place). option_map_or mark_of p 0) place)
+      marked : (token : UnparkToken) (key : ℕ) (sleep : Sleep)
+          → place_at s.lot.places e.thread ≡ Some (Taken token key sleep false) → sleep.mark ≡ e.mark
+      marked token key sleep place = sym (ap (λ (p : Option Place). option_map_or mark_of p 0) place)
           ∙ (h.woken (position_or_len (is_by t) s.wakes) e first).mark
 
-      go : (said : WakeResult) → IsOutside t s.lot.section → (key : ℕ)
-          → IsAt (QueuePosition.Off t said) (place_at s.lot.places e.thread) s.lot.section key
-          → (token : UnparkToken) × (sleep : Sleep) × (place_at s.lot.places e.thread ≡ Some (Taken token sleep false))
-          × (sleep.late ≡ false) × (sleep.mark ≡ e.mark) × (said ≡ told_of token)
+      go : (said : WakeResult) → s.lot.inside t ≡ None → (key : ℕ)
+          → IsAt (QueuePosition.Off t said) (place_at s.lot.places e.thread) (open_at s) key
+          → (token : UnparkToken) × (at : ℕ) × (sleep : Sleep)
+          × (place_at s.lot.places e.thread ≡ Some (Taken token at sleep false)) × (sleep.late ≡ false)
+          × (sleep.mark ≡ e.mark) × (said ≡ told_of token)
       go said out key x = told x.2
         where
-          told : ((place_at s.lot.places e.thread ≡ Some (Held x.0)) × (opened : Section)
-              × (s.lot.section ≡ Some opened) × (opened.thread ≡ Some t) × SaidIn opened said)
-              ⊎ ((token : UnparkToken) × (place_at s.lot.places e.thread ≡ Some (Taken token x.0 false))
+          told : ((place_at s.lot.places e.thread ≡ Some (Held key x.0)) × (opened : Section)
+              × (open_at s key ≡ Some opened) × (opened.thread ≡ Some t) × SaidIn opened said)
+              ⊎ ((token : UnparkToken) × (place_at s.lot.places e.thread ≡ Some (Taken token key x.0 false))
               × (said ≡ told_of token))
-              → (token : UnparkToken) × (sleep : Sleep)
-              × (place_at s.lot.places e.thread ≡ Some (Taken token sleep false)) × (sleep.late ≡ false)
+              → (token : UnparkToken) × (at : ℕ) × (sleep : Sleep)
+              × (place_at s.lot.places e.thread ≡ Some (Taken token at sleep false)) × (sleep.late ≡ false)
               × (sleep.mark ≡ e.mark) × (said ≡ told_of token)
-          told (inl y) = absurd (out y.1 y.2 y.3)
-          told (inr y) = (y.0, x.0, y.1, x.1, marked y.0 x.0 y.1, y.2)
+          told (inl y) = absurd (no_section s h t (bucket s key) y.1 out y.2 y.3)
+          told (inr y) = (y.0, key, x.0, y.1, x.1, marked y.0 key x.0 y.1, y.2)
 
   pub other : (e.thread == t) ≡ false
   other = ne_eqb e.thread t
@@ -114,8 +116,8 @@ module _ (s : State) (t : ℕ) (c : Call) (h : LotFits s) (here : call_at s t �
     awake = sleepers_wake d.core woken_off.1 woken_off.2 token woken_off.4
 
     place_woken : place_at u.lot.places e.thread ≡ Some Running
-    place_woken = place_at-set_same s.lot.places e.thread (Taken due_place.0 due_place.1 false) (Some Running)
-        due_place.2
+    place_woken = place_at-set_same s.lot.places e.thread (Taken due_place.0 due_place.1 due_place.2 false)
+        (Some Running) due_place.3
 
     place_other : (x : ℕ) → (x == e.thread) ≡ false → place_at u.lot.places x ≡ place_at s.lot.places x
     place_other x f = place_at-set_other s.lot.places e.thread x (Some Running) f
@@ -162,22 +164,24 @@ module _ (s : State) (t : ℕ) (c : Call) (h : LotFits s) (here : call_at s t �
 
     module _ (to : stance rouses.core ≡ Out) (counts : taken_count rouses.core ≡ taken_count c.core - 1)
         (sound : Sound u.lot) where
-      woke_seated : (x : ℕ) → x < length u.calls → Seated x (call_at u x) (place_at u.lot.places x) u.lot.section
-      woke_seated x within = by_eqb x t (Seated x (call_at u x) (place_at u.lot.places x) u.lot.section)
+      -- the places of the others stay, and all sections
+      stays : (x : ℕ) → (x == e.thread) ≡ false → SeatedIn s.lot x (call_at s x) → SeatedIn u.lot x (call_at s x)
+      stays x f = subst (λ (p : Option Place). SeatedIn s.lot x (call_at s x)
+          → Seated x (call_at s x) p (s.lot.inside x) (open_at s)) (sym (place_other x f)) (λ y. y)
+
+      woke_seated : (x : ℕ) → x < length u.calls → SeatedIn u.lot x (call_at u x)
+      woke_seated x within = by_eqb x t (SeatedIn u.lot x (call_at u x))
           (λ f. let seat = seat_of s h t c Out here from in
-          subst (λ (y : ℕ). Seated y (call_at u y) (place_at u.lot.places y) u.lot.section) (sym f)
-          (subst (λ (o : Option Call). Seated t o (place_at u.lot.places t) u.lot.section) (sym call_mine)
-          (sits t rouses Out (place_at u.lot.places t) u.lot.section to
-          (place_other t (eqb_false_symm e.thread t other) ∙ seat.0, seat.1))))
-          (λ f. by_eqb x e.thread (Seated x (call_at u x) (place_at u.lot.places x) u.lot.section)
+          subst (λ (y : ℕ). SeatedIn u.lot y (call_at u y)) (sym f)
+          (subst (λ (o : Option Call). SeatedIn u.lot t o) (sym call_mine)
+          (sits t rouses Out u.lot to (place_other t (eqb_false_symm e.thread t other) ∙ seat.0, seat.1))))
+          (λ f. by_eqb x e.thread (SeatedIn u.lot x (call_at u x))
           (λ g. let seat = seat_of s h e.thread d (Asleep woken_off.1 woken_off.2) there woken_off.4 in
-          subst (λ (y : ℕ). Seated y (call_at u y) (place_at u.lot.places y) u.lot.section) (sym g)
-          (subst (λ (o : Option Call). Seated e.thread o (place_at u.lot.places e.thread) u.lot.section)
-          (sym call_woken)
-          (sits e.thread roused_call Out (place_at u.lot.places e.thread) u.lot.section awake.1 (place_woken, seat.1))))
-          (λ g. subst (λ (o : Option Call). Seated x o (place_at u.lot.places x) u.lot.section) (sym (call_other x f g))
-          (subst (λ (p : Option Place). Seated x (call_at s x) p u.lot.section) (sym (place_other x g))
-          (h.seated x (subst (λ (n : ℕ). x < n) woke_length within)))))
+          subst (λ (y : ℕ). SeatedIn u.lot y (call_at u y)) (sym g)
+          (subst (λ (o : Option Call). SeatedIn u.lot e.thread o) (sym call_woken)
+          (sits e.thread roused_call Out u.lot awake.1 (place_woken, seat.1))))
+          (λ g. subst (λ (o : Option Call). SeatedIn u.lot x o) (sym (call_other x f g))
+          (stays x g (h.seated x (subst (λ (n : ℕ). x < n) woke_length within)))))
 
       woke_waits : (j l n : ℕ) (w : Waiter) → l < 2 → slice_get (u.lot.queues (2 * j + l)) n ≡ Some w → (z : Call)
           × (call_at u w.thread ≡ Some z) × (z.lock ≡ j) × (z.spot ≡ QueuePosition.Listed)
@@ -215,6 +219,18 @@ module _ (s : State) (t : ℕ) (c : Call) (h : LotFits s) (here : call_at s t �
           (sym old.4 ∙ ap (λ (y : Wakeup). y.thread)
           (same_wakeup (sym old.2 ∙ (ap (slice_get s.wakes) at ∙ first))))) in
           (left.0, old.1, left.1, old.3, old.4)))
+
+      woke_outside : TakersAreOut u u.lot
+      woke_outside x j z park by said y key sleep is asleep off place = by_eqb x t (s.lot.inside by ≡ None)
+          (λ f. absurd (out_asleep
+          (sym to ∙ (ap (λ (y : Call). stance y.core) (same_call (sym call_mine ∙ (ap (call_at u) (sym f) ∙ is)))
+          ∙ asleep))))
+          (λ f. by_eqb x e.thread (s.lot.inside by ≡ None)
+          (λ g. absurd (out_asleep
+          (sym awake.1 ∙ (ap (λ (y : Call). stance y.core)
+          (same_call (sym call_woken ∙ (ap (call_at u) (sym g) ∙ is))) ∙ asleep))))
+          (λ g. h.outside x j z park by said y key sleep (sym (call_other x f g) ∙ is) asleep off
+          (sym (place_other x g) ∙ place)))
 
       woke_woken : (n : ℕ) (f : Wakeup) → slice_get u.wakes n ≡ Some f → IsTaken u f
       woke_woken n f is =
@@ -296,10 +312,11 @@ module _ (s : State) (t : ℕ) (c : Call) (h : LotFits s) (here : call_at s t �
       woke_fits = record {
         sound = sound;
         seated = woke_seated;
-        opened = λ section is. let o = h.opened section is in
+        opened = λ b section is. let o = h.opened b section is in
             (o.0, o.1, subst (λ (n : ℕ). o.0 < n) (sym woke_length) o.2);
         waits = woke_waits;
         owed = woke_owed;
+        outside = woke_outside;
         woken = woke_woken;
         once = woke_once;
         counted = λ x z is. subst (Tallied (length u.calls) (length (taken_by u.wakes x))) is (woke_tally x);

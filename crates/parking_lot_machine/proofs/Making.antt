@@ -1,15 +1,15 @@
 -- What is a step of a lock is a step of the machine's family of locks, and keeps it sound: whichever move a call of any
 -- kind makes.
-use Rattle.std.proofs.Common.{◌≡◌, ◌≢◌, ℕ, inl, inr, ◌==◌, cond, Bool, true, false, List, [], ◌∷◌, length, Option, Some}
-use Rattle.std.proofs.Common.{None, slice_get, sym, ap, ◌∙◌, subst}
-use Rattle.std.proofs.lemmas.Bool.{ne_eqb, cases_eq}
+use Rattle.std.proofs.Common.{◌≡◌, ◌≢◌, ℕ, inl, inr, Bool, true, false, List, [], ◌∷◌, length, Option, Some}
+use Rattle.std.proofs.Common.{None, slice_get, refl, sym, ap, ◌∙◌, ◌%◌, subst}
+use Rattle.std.proofs.lemmas.Bool.{cases_eq}
 use Rattle.parking_lot_rules.specs.Roles.{Idle, Owned, Role, Stay}
 use Rattle.parking_lot_rules.specs.Steps.{Alone, List_changes, Scan, Store, Take1, Take2, Wake}
 use Rattle.parking_lot_rules.specs.Lock.{Lock}
 use Rattle.parking_lot_rules.specs.Mutex as mutex
 use Rattle.parking_lot_rules.specs.Any.{Rw, Mx, AnyStep, RwStep, MxStep, any_rules, AnySound, any_inside, any_crossing}
 use Rattle.parking_lot_rules.specs.Any.{IsIdleAt, any_after, mutex_crossing}
-use Rattle.parking_lot_rules.specs.Family.{Crossing, Stays, Comes, Goes, SoundFamilyOf, IsFree, entered_after}
+use Rattle.parking_lot_rules.specs.Family.{Crossing, SoundFamilyOf, IsFree, entered_after, key}
 use Rattle.parking_lot_protocol.specs.declared.act.ActResult.{ActResult}
 use Rattle.parking_lot_protocol.specs.MutexRules as of_mutex
 use Rattle.parking_lot_protocol.specs.RwRules as of_rw
@@ -17,7 +17,7 @@ use Rattle.parking_lot_machine_calls.specs.Kinds.{AsMutex, AsRw, manner_of, Mann
 use Rattle.parking_lot_machine_calls.specs.declared.calls.LockKind.{LockKind}
 use Rattle.parking_lot_machine_calls.specs.declared.seat.Core.{Core}
 use Rattle.parking_lot_machine.specs.Rows.{State, call_at, hold_at, taken_by, rw_lock_at, mutex_at, any_lock, lock_as}
-use Rattle.parking_lot_machine.specs.Rows.{lock_at, inside, family, one_bucket}
+use Rattle.parking_lot_machine.specs.Rows.{lock_at, bucket, entered_in, family}
 use Rattle.parking_lot_machine.specs.MutexLaws as mutex_laws
 use Rattle.parking_lot_machine.specs.RwLaws as rw_laws
 use Rattle.parking_lot_machine.specs.RwLaws.{IsStep}
@@ -30,11 +30,19 @@ use Rattle.parking_lot_machine.proofs.KindTable.{role_at, shown}
 use Rattle.parking_lot_machine.proofs.Moves.{goes, ends}
 use Rattle.parking_lot_machine.specs.LateActs.{unowed}
 
--- who is inside, where thread t crosses so
-abbrev pub Crossed : Crossing → ℕ → Option ℕ → Option ℕ → Type 0
-Crossed Stays t old new = new ≡ old
-Crossed (Comes k) t old new = (old ≡ None) × (new ≡ Some t)
-Crossed (Goes k) t old new = new ≡ None
+-- who has entered which bucket, as one sees it that is at a lock
+pub record Entries : Type 0 where
+  pub bucket : ℕ → ℕ
+  pub lock : ℕ
+  pub entered : ℕ → Option ℕ
+
+abbrev pub entries : State → ℕ → Entries
+entries s j = record { bucket = bucket s; lock = j; entered = entered_in s }
+
+-- and once thread t has crossed so
+abbrev pub Crossed : Crossing → ℕ → Entries → Entries → Type 0
+Crossed c t old new = IsFree old.bucket old.entered old.lock c
+    × ((b : ℕ) → new.entered b ≡ entered_after old.bucket old.entered old.lock t c b)
 
 -- a thread that is at lock j does nothing at another
 idle_any : (s : State) (t j : ℕ) → IsThere j (call_at s t) → (i : ℕ) → i ≢ j → (o : Option LockKind)
@@ -53,85 +61,72 @@ idle_any s t j there i ne o = go (manner_of o)
         (was-all (role_at of_mutexes s i) (length s.calls) t r h ∙ idle_in of_mutexes i j ne (taken_by s.wakes t)
         (hold_at s t i) (call_at s t) there)
 
-free : (c : Crossing) (t j : ℕ) (s u : State) → Crossed c t (inside s) (inside u)
-    → IsFree one_bucket (family s).entered j c
-free Stays t j s u h = tt
-free (Comes k) t j s u h = h.0
-free (Goes k) t j s u h = tt
-
-marks : (c : Crossing) (t j : ℕ) (s u : State) → Crossed c t (inside s) (inside u) → (b : ℕ)
-    → (family u).entered b ≡ entered_after one_bucket (family s).entered j t c b
-marks Stays t j s u h b = ap (λ o. cond (b == 0) o None) h
-marks (Comes k) t j s u h b = elim (cases_eq b 0) [
-  | inl e ↦ ap (λ n. cond (n == 0) (inside u) None) e ∙ h.1
-      ∙ sym (ap (λ n. cond (n == 0) (Some t) (cond (n == 0) (inside s) None)) e)
-  | inr ne ↦ ap (λ q. cond q (inside u) None) (ne_eqb b 0 ne)
-      ∙ sym (ap (λ q. cond q (Some t) (cond q (inside s) None)) (ne_eqb b 0 ne))
-]
-marks (Goes k) t j s u h b = elim (cases_eq b 0) [
-  | inl e ↦ ap (λ n. cond (n == 0) (inside u) None) e ∙ h
-      ∙ sym (ap (λ n. cond (n == 0) None (cond (n == 0) (inside s) None)) e)
-  | inr ne ↦ ap (λ q. cond q (inside u) None) (ne_eqb b 0 ne)
-      ∙ sym (ap (λ q. cond q None (cond q (inside s) None)) (ne_eqb b 0 ne))
-]
-
 module _ {C R L : Type 0} (K : Kind C R L) (s u : State) (t j : ℕ) (there : IsThere j (call_at s t))
     (others : Elsewhere j s u) (k : manner_of (slice_get s.kinds j) ≡ Some K.manner) where
   shown_after : lock_at u j ≡ K.any (shown K u j)
   shown_after = ap (λ ks. any_lock (slice_get ks j) u j) others.kinds ∙ K.shows u j (slice_get s.kinds j) k
 
   pub made : (step : AnyStep) → (any_rules (recursive_in s.kinds)).allowed j t step (K.any (shown K s j))
-      → K.any (shown K u j) ≡ any_after t step (K.any (shown K s j)) → Crossed (any_crossing step) t (inside s)
-      (inside u) → IsMade j t step s u
+      → K.any (shown K u j) ≡ any_after t step (K.any (shown K s j)) → Crossed (any_crossing step) t (entries s j) (entries u j) → IsMade j t step s u
   made step allowed here crossed = record {
     allowed = subst ((any_rules (recursive_in s.kinds)).allowed j t step) (sym (K.shows s j (slice_get s.kinds j) k))
         allowed;
-    free = free (any_crossing step) t j s u crossed;
+    free = crossed.0;
     idle = λ i ne. idle_any s t j there i ne (slice_get s.kinds i);
     here = shown_after ∙ here ∙ sym (ap (any_after t step) (K.shows s j (slice_get s.kinds j) k));
     elsewhere = λ i ne. elsewhere j s u others i ne;
-    entered = marks (any_crossing step) t j s u crossed;
+    entered = crossed.1;
   }
 
   -- where nothing changes at lock j either
-  pub quiet : shown K u j ≡ shown K s j → inside u ≡ inside s → IsQuiet s u
+  pub quiet : shown K u j ≡ shown K s j → ((b : ℕ) → entered_in u b ≡ entered_in s b) → IsQuiet s u
   quiet here same = record {
     locks = λ i. elim (cases_eq i j) [
       | inl e ↦ subst (λ (n : ℕ). lock_at u n ≡ lock_at s n) (sym e)
           (shown_after ∙ ap K.any here ∙ sym (K.shows s j (slice_get s.kinds j) k))
       | inr ne ↦ elsewhere j s u others i ne
     ];
-    inside = same;
+    entered = same;
   }
 
 -- SOUND AS BEFORE
 
 abbrev pub IsSoundState : State → Type 0
-IsSoundState s = SoundFamilyOf AnySound any_inside one_bucket (family s)
+IsSoundState s = SoundFamilyOf AnySound any_inside (bucket s) (family s)
 
-pub quiet_sound : (s u : State) → IsQuiet s u → IsSoundState s → IsSoundState u
-quiet_sound s u q sound = record {
+-- where there are as many buckets as before
+as_many_sound : (s u : State) → u.lot.buckets ≡ s.lot.buckets
+    → SoundFamilyOf AnySound any_inside (bucket s) (family u) → IsSoundState u
+as_many_sound s u same h =
+    subst (λ (n : ℕ). SoundFamilyOf AnySound any_inside (λ (key : ℕ). key % n) (family u)) (sym same) h
+
+pub quiet_sound : (s u : State) → u.lot.buckets ≡ s.lot.buckets → IsQuiet s u → IsSoundState s → IsSoundState u
+quiet_sound s u same q sound = as_many_sound s u same (record {
   sound = λ i. subst AnySound (sym (q.locks i)) (sound.sound i);
-  entered = λ i k x h. ap (λ o. o) q.inside ∙ sound.entered i k x (sym (ap (λ l. any_inside l k x) (q.locks i)) ∙ h);
-  is_inside = λ b x h. let old = sound.is_inside b x (ap (λ o. cond (b == 0) o None) (sym q.inside) ∙ h) in
+  entered = λ i k x h. q.entered (bucket s (key i k))
+      ∙ sound.entered i k x (sym (ap (λ l. any_inside l k x) (q.locks i)) ∙ h);
+  is_inside = λ b x h. let old = sound.is_inside b x (sym (q.entered b) ∙ h) in
       (old.0, old.1, old.2, ap (λ l. any_inside l old.1 x) (q.locks old.0) ∙ old.3);
-}
+})
 
-pub made_sound : (s u : State) (t j : ℕ) (step : AnyStep) → IsMade j t step s u → IsSoundState s → IsSoundState u
-made_sound s u t j step made sound = families_stay_sound (recursive_in s.kinds) one_bucket j t step (family s)
-    (family u) sound made
+pub made_sound : (s u : State) (t j : ℕ) (step : AnyStep) → u.lot.buckets ≡ s.lot.buckets → IsMade j t step s u
+    → IsSoundState s → IsSoundState u
+made_sound s u t j step same made sound = as_many_sound s u same
+    (families_stay_sound (recursive_in s.kinds) (bucket s) j t step (family s) (family u) sound made)
 
 -- whichever move it is
 pub move_sound : (s u : State) (x : Core) (n : ℕ) (us : List ℕ) (told : ActResult) (j t : ℕ)
-    → IsMoveOf x n us told j t s u → IsSoundState s → IsSoundState u
-move_sound s u x n us told j t h sound = goes s u (λ t j. IsSoundState u) (λ t j q. quiet_sound s u q sound)
-    (λ t j step m. made_sound s u t j step m sound)
-    (λ t j by passing finding passes f. made_sound (unowed s t) u t j finding f.1
-    (made_sound s (unowed s t) by j passing f.0 sound)) x n us told j t h
+    → u.lot.buckets ≡ s.lot.buckets → IsMoveOf x n us told j t s u → IsSoundState s → IsSoundState u
+move_sound s u x n us told j t same h sound = goes s u (λ t j. IsSoundState u)
+    (λ t j q. quiet_sound s u same q sound)
+    (λ t j step m. made_sound s u t j step same m sound)
+    (λ t j by passing finding passes f. made_sound (unowed s t) u t j finding same f.1
+    (made_sound s (unowed s t) by j passing refl f.0 sound)) x n us told j t h
 
-pub last_sound : (s u : State) (x : Core) (n j t : ℕ) → IsLastOf x n j t s u → IsSoundState s → IsSoundState u
-last_sound s u x n j t h sound = ends s u (λ t j. IsSoundState u) (λ t j q. quiet_sound s u q sound)
-    (λ t j step m. made_sound s u t j step m sound) x n j t h
+pub last_sound : (s u : State) (x : Core) (n j t : ℕ) → u.lot.buckets ≡ s.lot.buckets → IsLastOf x n j t s u
+    → IsSoundState s → IsSoundState u
+last_sound s u x n j t same h sound = ends s u (λ t j. IsSoundState u) (λ t j q. quiet_sound s u same q sound)
+    (λ t j step m. made_sound s u t j step same m sound) x n j t h
 
 -- THE MOVES OF A READER-WRITER LOCK
 
@@ -157,9 +152,9 @@ SomeFor m us = Unit {0}
 pub rw_goes : (s u : State) (t j : ℕ) (m : of_rw.Move) (us : List ℕ) (n : Lock) → IsThere j (call_at s t)
     → Elsewhere j s u → manner_of (slice_get s.kinds j) ≡ Some AsRw → RwLeadsBy (recursive_in s.kinds j) m t
     (rw_lock_at s j) n → rw_lock_at u j ≡ n
-    → Crossed (rw_laws.move_crossing m) t (inside s) (inside u) → SomeFor m us → IsRwMove m us j t s u
+    → Crossed (rw_laws.move_crossing m) t (entries s j) (entries u j) → SomeFor m us → IsRwMove m us j t s u
 rw_goes s u t j of_rw.Stays us n there others k leads here crossed some = quiet of_rws s u t j there others k
-    (here ∙ leads) crossed
+    (here ∙ leads) crossed.1
 rw_goes s u t j (of_rw.Makes x) us n there others k leads here crossed some = made of_rws s u t j there others k
     (RwStep (Alone x)) leads.0 (ap Rw (here ∙ sym leads.1)) crossed
 rw_goes s u t j (of_rw.Joins x) us n there others k leads here crossed some = made of_rws s u t j there others k
@@ -204,10 +199,9 @@ TellsOf m us v = Unit {0}
 
 pub mutex_goes : (s u : State) (t j v : ℕ) (us : List ℕ) (n : mutex.Mutex) (m : of_mutex.Move) → IsThere j (call_at s t)
     → Elsewhere j s u → manner_of (slice_get s.kinds j) ≡ Some AsMutex
-    → mutex_laws.LeadsBy m v t (mutex_at s j) n → mutex_at u j ≡ n → Crossed (mutex_laws.move_crossing m) t (inside s)
-    (inside u) → TellsOf m us v → IsMutexMove m us j t s u
+    → mutex_laws.LeadsBy m v t (mutex_at s j) n → mutex_at u j ≡ n → Crossed (mutex_laws.move_crossing m) t (entries s j) (entries u j) → TellsOf m us v → IsMutexMove m us j t s u
 mutex_goes s u t j v us n of_mutex.Stays there others k leads here crossed tells = quiet of_mutexes s u t j there others
-    k (here ∙ leads) crossed
+    k (here ∙ leads) crossed.1
 mutex_goes s u t j v us n (of_mutex.Makes x) there others k leads here crossed tells =
     made of_mutexes s u t j there others k (MxStep (mutex.Alone x)) leads.0 (ap Mx (here ∙ sym leads.1)) crossed
 mutex_goes s u t j v us n of_mutex.Joins there others k leads here crossed tells = made of_mutexes s u t j there others
@@ -223,7 +217,7 @@ mutex_goes s u t j v us n (of_mutex.Tells taken handed left) there others k lead
     (made of_mutexes s u t j there others k (MxStep (store_step handed (of_mutex.taken_of v taken))) leads.0
     (ap Mx (here ∙ sym leads.1)) (stores handed (of_mutex.taken_of v taken)))
   where
-    stores : (b : Bool) (vs : List ℕ) → Crossed (mutex_crossing (store_step b vs)) t (inside s) (inside u)
+    stores : (b : Bool) (vs : List ℕ) → Crossed (mutex_crossing (store_step b vs)) t (entries s j) (entries u j)
     stores true (x ∷ vs) = crossed
     stores true [] = crossed
     stores false vs = crossed
@@ -237,7 +231,7 @@ mutex_goes s u t j v us n of_mutex.WakesOne there others k leads here crossed te
           leads.2.0 (ap Mx (here ∙ sym leads.2.1)) (wakes leads.0),
     )
   where
-    wakes : (b : Bool) → Crossed (mutex_crossing (wake_step_of leads.1 b v [])) t (inside s) (inside u)
+    wakes : (b : Bool) → Crossed (mutex_crossing (wake_step_of leads.1 b v [])) t (entries s j) (entries u j)
     wakes true = crossed
     wakes false = crossed
 mutex_goes s u t j v us n (of_mutex.IsWoken handed) there others k leads here crossed tells = absurd leads

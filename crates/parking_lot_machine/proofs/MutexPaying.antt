@@ -23,7 +23,8 @@ use Rattle.parking_lot_protocol.specs.Acts.{Gives, word_after}
 use Rattle.parking_lot_protocol.specs.MutexTable.{act_of, next_phase, seeks, tries, retries, begins}
 use Rattle.parking_lot_rules.specs.Classes.{bit}
 use Rattle.parking_lot_machine.specs.RankLaws.{Can, StopsAt, MutexStepsFall}
-use Rattle.parking_lot_machine.specs.Ranks.{View, Unseen, Sees, wake, is_at, is_open, mutex_parks, mutex_asks}
+use Rattle.parking_lot_machine_calls.specs.Stances.{mutex_stance}
+use Rattle.parking_lot_machine.specs.Ranks.{View, Unseen, Sees, Shut, wake, is_at, is_open, mutex_parks, mutex_asks}
 use Rattle.parking_lot_machine.specs.Ranks.{mutex_ends, mutex_steps}
 
 -- NUMBERS
@@ -57,7 +58,7 @@ ends_some v g = elim g.again as (λ b. 1 ≤ cond b (2 + mutex_asks v 10) 1) [ t
 -- A WORD WAS SEEN
 
 -- One that asks has seen the word: the exchange that it makes next isn't lost, if nobody comes between.
-module _ (first : ℕ) (shut : Bool) where
+module _ (first : ℕ) (shut : Shut) where
   waits : (a : Asking) (b : Bool) → nat_lt 0 a.rounds ≡ b → mutex_steps (Sees 1 first shut) (cond b (Spins a) (Parks a))
       ≤ mutex_asks (Sees 1 first shut) a.rounds
   waits a true e = omega (arith, ltb-true 0 a.rounds e)
@@ -125,7 +126,7 @@ leaves : (v : View) (g : Giving) (taken : Bool) → mutex_steps v (cond taken (W
 leaves v g true = omega arith
 leaves v g false = omega arith
 
-finishes : (fair again : Bool) (s : ActResult) (word first after : ℕ) (shut : Bool) → let p : MutexPhase =
+finishes : (fair again : Bool) (s : ActResult) (word first after : ℕ) (shut : Shut) → let p : MutexPhase =
     Finishes (record { fair = fair; again = again }) in
     Gives (act_of p) word s → mutex_steps (Sees (word_after (act_of p) s word) after shut) (next_phase p s) + 1 ≤
     mutex_steps (Sees word first shut) p
@@ -134,8 +135,8 @@ finishes fair again s word first after shut e = absurd e
 
 -- EACH ACT
 
-falls : (p : MutexPhase) (s : ActResult) (word first after : ℕ) (shut : Bool) → word < 4 → Gives (act_of p) word s
-    → Can (act_of p) shut s
+falls : (p : MutexPhase) (s : ActResult) (word first after : ℕ) (shut : Shut) → word < 4 → Gives (act_of p) word s
+    → Can (mutex_stance p) (act_of p) shut s
     → mutex_steps (Sees (word_after (act_of p) s word) after shut) (next_phase p s) + 1 ≤ mutex_steps
     (Sees word first shut) p
 falls (Loads a) (Word n) word first after shut few g can = more _ _ (seeks_seen after shut a n word few g)
@@ -147,11 +148,11 @@ falls (Spins a) (Spun false) word first after shut few g can = absurd (let f : S
 falls (Parks a) Exchanged word first after shut few g can = won_by _ _ _ _ (eq-eqb word 1 g) (more _ _ (le_refl _))
 falls (Parks a) (Word n) word first after shut few g can = lost_by _ _ _ _ (ne_eqb word 1 g.1)
     (more _ _ (seeks_seen after shut a n word few g.0))
-falls (Enters woken) Entered word first after shut few g can = enters (word == 3) shut can
+falls (Enters woken) Entered word first after shut few g can = enters (word == 3) shut.first can
 falls (Checks woken) (Word n) word first after shut few g can =
     subst (λ (k : ℕ). mutex_steps (Sees word after shut) (cond (k == 3) Appends (Retreats woken)) + 1 ≤ cond (word == 3)
     3 28) (sym g) (checks (Sees word after shut) woken (word == 3))
-falls (Retreats woken) Made word first after shut few g can = retreats shut can
+falls (Retreats woken) Made word first after shut few g can = retreats shut.first can
 falls Appends Made word first after shut few g can = omega arith
 falls Rests Made word first after shut few g can = omega arith
 falls Sleeps s word first after shut few g can = absurd can
@@ -238,26 +239,28 @@ few (Finishes g) v = ends_few v g.again
 few p v = le_refl _
 
 -- who is shut out counts a section as if it saw nothing
-module _ (word first : ℕ) where
-  ends_shut : (shut again : Bool) → shut ≡ true → cond again (2 + mutex_asks Unseen 10) 1 ≤ cond again
+module _ (word first : ℕ) (shut : Shut) (e : shut.first ≡ true) where
+  shut_parks : mutex_parks (Sees word first shut) ≡ 29
+  shut_parks = ap (λ b. cond (not b) 4 29) e
+
+  ends_shut : (again : Bool) → cond again (2 + mutex_asks Unseen 10) 1 ≤ cond again
       (2 + mutex_asks (Sees word first shut) 10) 1
-  ends_shut true again e = le_refl _
-  ends_shut false again e = absurd (let f : false ≡ true = e in cc)
+  ends_shut true = omega (arith, shut_parks)
+  ends_shut false = le_refl _
 
-  enters_shut : (b shut : Bool) → shut ≡ true → 29 ≤ cond b (mutex_parks (Sees word first shut)) 29
-  enters_shut true true e = omega arith
-  enters_shut true false e = absurd (let f : false ≡ true = e in cc)
-  enters_shut false shut e = omega arith
+  enters_shut : (b : Bool) → 29 ≤ cond b (mutex_parks (Sees word first shut)) 29
+  enters_shut true = omega (arith, shut_parks)
+  enters_shut false = omega arith
 
-goes_on : (again shut : Bool) → StopsAt (cond again Act.Load (Act.Done Released)) shut → ⊥
+goes_on : (again : Bool) (shut : Shut) → StopsAt (cond again Act.Load (Act.Done Released)) shut → ⊥
 goes_on true shut e = e
 goes_on false shut e = e
 
-stops : (p : MutexPhase) (word first : ℕ) (shut : Bool) → StopsAt (act_of p) shut
+stops : (p : MutexPhase) (word first : ℕ) (shut : Shut) → StopsAt (act_of p) shut
     → mutex_steps Unseen p ≤ mutex_steps (Sees word first shut) p
-stops (Enters woken) word first shut e = enters_shut word first (word == 3) shut e
+stops (Enters woken) word first shut e = enters_shut word first shut e (word == 3)
 stops Sleeps word first shut e = omega arith
-stops (Looks g) word first shut e = omega (arith, ends_shut word first shut g.again e)
+stops (Looks g) word first shut e = omega (arith, ends_shut word first shut e g.again)
 stops (Finishes g) word first shut e = absurd (goes_on g.again shut e)
 stops p word first shut e = absurd e
 

@@ -46,8 +46,8 @@ module _ {F : Type 0} (gives : F → ParkToken → FilterOp → F → Type 0) (f
         let at = passed + count_by is_skip answers in
         MatchBool (list_any is_take answers)
         ((result ≡ Ok (option_map (taking_of old) (slice_get queue at)))
-        × (new ≡ taken (in_phase old (phase.Taking at)) key at))
-        ((result ≡ Ok None) × (new ≡ in_phase old phase.Ended))
+        × (new ≡ taken (in_phase old key (phase.Taking at)) key at))
+        ((result ≡ Ok None) × (new ≡ in_phase old key phase.Ended))
 
     -- one more is passed
     passes : (n : ℕ) (w : Waiter) → ArePassed ask queue n → slice_get queue n ≡ Some w → ask w.token.0 ≡ Skip
@@ -83,9 +83,9 @@ module _ {F : Type 0} (gives : F → ParkToken → FilterOp → F → Type 0) (f
         ends ops none after =
             let at_once : After (Unpark ∷ []) n = subst (λ (xs : List FilterOp). After (Unpark ∷ xs) n) none after in
             let here : (result ≡ Ok (option_map (taking_of old) (slice_get queue n)))
-            × (new ≡ taken (in_phase old (phase.Taking n)) key n) =
+            × (new ≡ taken (in_phase old key (phase.Taking n)) key n) =
             subst (λ (m : ℕ). (result ≡ Ok (option_map (taking_of old) (slice_get queue m)))
-            × (new ≡ taken (in_phase old (phase.Taking m)) key m)) (omega arith) at_once in
+            × (new ≡ taken (in_phase old key (phase.Taking m)) key m)) (omega arith) at_once in
             inl (
               n,
               w,
@@ -101,8 +101,8 @@ module _ {F : Type 0} (gives : F → ParkToken → FilterOp → F → Type 0) (f
         (subst (λ (f : F). Answers gives is_no_skip f (tokens_of ws) ops last) said.1 given.2)
         (subst (λ (m : ℕ). MatchBool (list_any is_take ops)
         ((result ≡ Ok (option_map (taking_of old) (slice_get queue m)))
-        × (new ≡ taken (in_phase old (phase.Taking m)) key m))
-        ((result ≡ Ok None) × (new ≡ in_phase old phase.Ended))) (omega (arith, count_by-cons is_skip Skip ops))
+        × (new ≡ taken (in_phase old key (phase.Taking m)) key m))
+        ((result ≡ Ok None) × (new ≡ in_phase old key phase.Ended))) (omega (arith, count_by-cons is_skip Skip ops))
         after)
     walks (w ∷ ws) n rest before (Stop ∷ ops) last given after =
         absurd (stops w.token.0 (sym (same w.token Stop given.0 given.1).0))

@@ -9,9 +9,11 @@ use Rattle.parking_lot_rules.specs.Lists.{at_index}
 use Rattle.parking_lot_rules.specs.Classes.{Inside1, Inside2, weighs}
 use Rattle.parking_lot_rules.specs.Mutex as mutex
 use Rattle.parking_lot_rules.specs.Any.{AnyLock, Mx, MxStep, any_inside, mutex_crossing}
-use Rattle.parking_lot_rules.specs.Family.{Key, First, Second, Crossing}
+use Rattle.parking_lot_rules.specs.Family.{Key, First, Second, Crossing, key}
 use Rattle.parking_lot_rules.proofs.MutexCrossing.{any_are_rules}
 use Rattle.parking_lot_protocol.specs.declared.act.Act.{Act}
+use Rattle.parking_lot_protocol.specs.declared.act.CoreAnswer.{CoreAnswer}
+use Rattle.parking_lot_machine_calls.specs.Stances.{Out}
 use Rattle.parking_lot_protocol.specs.declared.act.SectionAct.TheVariants as section
 use Rattle.parking_lot_protocol.specs.declared.act.ActResult.{ActResult}
 use Rattle.parking_lot_protocol.specs.declared.mutex_core.MutexCore.{MutexCore}
@@ -20,9 +22,12 @@ use Rattle.parking_lot_machine_calls.specs.Kinds.{AsMutex, AsRw, manner_of, Mann
 use Rattle.parking_lot_machine_calls.specs.declared.seat.LatePhase.{LatePhase}
 use Rattle.parking_lot_machine_calls.specs.declared.seat.Core.{Core}
 use Rattle.parking_lot_machine_calls.specs.declared.open_call.Call.{Call}
-use Rattle.parking_lot_machine.specs.Rows.{State, word_at, taken_by, rw_lock_at, mutex_at, lock_as, lock_at, inside}
+use Rattle.parking_lot_machine.specs.Rows.{State, word_at, taken_by, rw_lock_at, mutex_at, bucket, entered_in, lock_as, lock_at}
 use Rattle.parking_lot_machine_calls.specs.CallRoles.{first_of_all, mutex_spot, mutex_role}
-use Rattle.parking_lot_machine_calls.specs.Stances.{has_begun, core_act, core_next, late_act, sign, Stance, mutex_taken}
+use Rattle.parking_lot_machine_calls.specs.Stances.{has_begun, core_act, core_next, late_act, late_stance, mutex_stance}
+use Rattle.parking_lot_machine_calls.specs.Stances.{sign, stance, Stance, mutex_taken}
+use Rattle.parking_lot_machine.specs.RwLaws.{act_crossing}
+use Rattle.parking_lot_machine.specs.MutexLaws.{crossing_of}
 use Rattle.parking_lot_machine.specs.RowFits.{FitsTogether, RulesFit, IsPrepared, mutex_knows}
 use Rattle.parking_lot_machine_calls.specs.CallKinds.{IsOfKind}
 use Rattle.parking_lot_machine.specs.RowSteps.{Goes, resume_step}
@@ -34,7 +39,7 @@ use Rattle.parking_lot_machine.specs.MutexLaws.{is_own}
 use Rattle.parking_lot_machine.proofs.MutexMoving.{steps}
 use Rattle.parking_lot_machine.proofs.KindTable.{Late, Plain, RwCall, Simple, Upgradable, next_is, of_mutexes, of_rws}
 use Rattle.parking_lot_machine.proofs.KindTable.{rw_call, rw_next, same, Tardy, role_by}
-use Rattle.parking_lot_machine.proofs.Making.{Crossed, TellsOf, made, mutex_goes, rw_goes, IsSoundState}
+use Rattle.parking_lot_machine.proofs.Making.{Crossed, TellsOf, entries, made, mutex_goes, rw_goes, IsSoundState}
 use Rattle.parking_lot_machine.proofs.Meeting.{meets, plays, plays_late, rw_hears, exact}
 use Rattle.parking_lot_machine.proofs.OwnMoves.{AfterAct, IsOwnAct, own_some}
 use Rattle.parking_lot_machine.proofs.RwCalls.{as_move, call_hears, call_learns, call_move, call_own, own_wants}
@@ -49,45 +54,49 @@ use Rattle.parking_lot_machine_calls.proofs.Stancing.{leads_by}
 
 -- NOBODY IS INSIDE
 
-module _ (s : State) (sound : IsSoundState s) (free : inside s ≡ None) where
-  nobody_at : (i u : ℕ) (k : Key) → any_inside (lock_at s i) k u ≢ 1
-  nobody_at i u k e = none-some u (sym free ∙ sound.entered i k u e)
+module _ (s : State) (sound : IsSoundState s) (i : ℕ) (k : Key) (free : entered_in s (bucket s (key i k)) ≡ None) where
+  nobody_at : (u : ℕ) → any_inside (lock_at s i) k u ≢ 1
+  nobody_at u e = none-some u (sym free ∙ sound.entered i k u e)
 
-  at_most : (l : AnyLock) (u : ℕ) (k : Key) → any_inside l k u ≤ 1
+  at_most : (l : AnyLock) (u : ℕ) (x : Key) → any_inside l x u ≤ 1
   at_most l u First = omega (arith, (any_are_rules (λ i. false)).one l u)
   at_most l u Second = omega (arith, (any_are_rules (λ i. false)).one l u)
 
-  none_inside : (i u : ℕ) (k : Key) (o : Option Manner) → manner_of (slice_get s.kinds i) ≡ o
-      → any_inside (lock_as o s i) k u ≡ 0
-  none_inside i u k o e =
+  none_inside : (u : ℕ) (o : Option Manner) → manner_of (slice_get s.kinds i) ≡ o → any_inside (lock_as o s i) k u ≡ 0
+  none_inside u o e =
       omega (
         arith,
         at_most (lock_as o s i) u k,
-        λ (x : any_inside (lock_as o s i) k u ≡ 1). nobody_at i u k
-            (ap (λ q. any_inside (lock_as q s i) k u) e ∙ x),
+        λ (x : any_inside (lock_as o s i) k u ≡ 1). nobody_at u (ap (λ q. any_inside (lock_as q s i) k u) e ∙ x),
       )
 
-  pub sound_first : (i : ℕ) → manner_of (slice_get s.kinds i) ≡ Some AsRw → NobodyIs Inside1 (rw_lock_at s i).roles
-  sound_first i e u r at = sym (ap (weighs Inside1) at) ∙ none_inside i u First (Some AsRw) e
+pub sound_first : (s : State) → IsSoundState s → (i : ℕ) → entered_in s (bucket s (key i First)) ≡ None
+    → manner_of (slice_get s.kinds i) ≡ Some AsRw → NobodyIs Inside1 (rw_lock_at s i).roles
+sound_first s sound i free e u r at = sym (ap (weighs Inside1) at) ∙ none_inside s sound i First free u (Some AsRw) e
 
-  pub sound_second : (i : ℕ) → manner_of (slice_get s.kinds i) ≡ Some AsRw → NobodyIs Inside2 (rw_lock_at s i).roles
-  sound_second i e u r at = sym (ap (weighs Inside2) at) ∙ none_inside i u Second (Some AsRw) e
+pub sound_second : (s : State) → IsSoundState s → (i : ℕ) → entered_in s (bucket s (key i Second)) ≡ None
+    → manner_of (slice_get s.kinds i) ≡ Some AsRw → NobodyIs Inside2 (rw_lock_at s i).roles
+sound_second s sound i free e u r at = sym (ap (weighs Inside2) at)
+    ∙ none_inside s sound i Second free u (Some AsRw) e
 
-  pub sound_in_mutex : (i : ℕ) → manner_of (slice_get s.kinds i) ≡ Some AsMutex → (u : ℕ) (r : mutex.Role)
-      → slice_get (mutex_at s i).roles u ≡ Some r → mutex.weight mutex.Inside r ≡ 0
-  sound_in_mutex i e u r at = sym (ap (at_index (mutex.weight mutex.Inside)) at)
-      ∙ none_inside i u First (Some AsMutex) e
+pub sound_in_mutex : (s : State) → IsSoundState s → (i : ℕ) → entered_in s (bucket s (key i First)) ≡ None
+    → manner_of (slice_get s.kinds i) ≡ Some AsMutex → (u : ℕ) (r : mutex.Role)
+    → slice_get (mutex_at s i).roles u ≡ Some r → mutex.weight mutex.Inside r ≡ 0
+sound_in_mutex s sound i free e u r at = sym (ap (at_index (mutex.weight mutex.Inside)) at)
+    ∙ none_inside s sound i First free u (Some AsMutex) e
 
-module _ (s : State) (h : FitsTogether s) (free : inside s ≡ None) where
-  pub nobody_first : (i : ℕ) → manner_of (slice_get s.kinds i) ≡ Some AsRw → NobodyIs Inside1 (rw_lock_at s i).roles
-  nobody_first = sound_first s h.rules.sound free
+module _ (s : State) (h : FitsTogether s) (i : ℕ) where
+  pub nobody_first : entered_in s (bucket s (key i First)) ≡ None → manner_of (slice_get s.kinds i) ≡ Some AsRw
+      → NobodyIs Inside1 (rw_lock_at s i).roles
+  nobody_first free e = sound_first s h.rules.sound i free e
 
-  pub nobody_second : (i : ℕ) → manner_of (slice_get s.kinds i) ≡ Some AsRw → NobodyIs Inside2 (rw_lock_at s i).roles
-  nobody_second = sound_second s h.rules.sound free
+  pub nobody_second : entered_in s (bucket s (key i Second)) ≡ None → manner_of (slice_get s.kinds i) ≡ Some AsRw
+      → NobodyIs Inside2 (rw_lock_at s i).roles
+  nobody_second free e = sound_second s h.rules.sound i free e
 
-  pub nobody_in_mutex : (i : ℕ) → manner_of (slice_get s.kinds i) ≡ Some AsMutex → (u : ℕ) (r : mutex.Role)
-      → slice_get (mutex_at s i).roles u ≡ Some r → mutex.weight mutex.Inside r ≡ 0
-  nobody_in_mutex = sound_in_mutex s h.rules.sound free
+  pub nobody_in_mutex : entered_in s (bucket s (key i First)) ≡ None → manner_of (slice_get s.kinds i) ≡ Some AsMutex
+      → (u : ℕ) (r : mutex.Role) → slice_get (mutex_at s i).roles u ≡ Some r → mutex.weight mutex.Inside r ≡ 0
+  nobody_in_mutex free e = sound_in_mutex s h.rules.sound i free e
 
 no_start : false ≡ true → ⊥
 no_start e = both_ways false refl e
@@ -155,24 +164,24 @@ own_counts (Act.Done answer) told x y n m tells own l = absurd own
 -- AT A LOCK OF EITHER KIND
 
 module _ (s u : State) (t : ℕ) (h : FitsTogether s) where
-  finds : (a : Act) (i : ℕ) → IsOwnAct a → AfterAct a t (inside s) (inside u) → manner_of (slice_get s.kinds i) ≡ Some
-      AsRw → Finds a (rw_lock_at s i)
-  finds (Act.Enter zero) i own around e = nobody_first s h around.0 i e
-  finds (Act.Enter (suc key)) i own around e = nobody_second s h around.0 i e
-  finds (Act.FetchAnd keep) i own around e = absurd own
-  finds Act.Load i own around e = tt
-  finds (Act.Exchange from to) i own around e = tt
-  finds (Act.Add by) i own around e = tt
-  finds Act.Spin i own around e = tt
-  finds (Act.Section a) i own around e = tt
-  finds Act.Sleep i own around e = tt
-  finds (Act.Done answer) i own around e = tt
+  finds : (st : Stance) (a : Act) (i : ℕ) → IsOwnAct a → AfterAct st a t (entries s i) (entries u i)
+      → manner_of (slice_get s.kinds i) ≡ Some AsRw → Finds a (rw_lock_at s i)
+  finds st (Act.Enter zero) i own around e = nobody_first s h i around.0 e
+  finds st (Act.Enter (suc which)) i own around e = nobody_second s h i around.0 e
+  finds st (Act.FetchAnd keep) i own around e = absurd own
+  finds st Act.Load i own around e = tt
+  finds st (Act.Exchange from to) i own around e = tt
+  finds st (Act.Add by) i own around e = tt
+  finds st Act.Spin i own around e = tt
+  finds st (Act.Section a) i own around e = tt
+  finds st Act.Sleep i own around e = tt
+  finds st (Act.Done answer) i own around e = tt
 
   -- whose moment has passed leaves its section
   own_late : (c : Call) (p : LatePhase) (told : ActResult) → ((key : ℕ) → u.lot.queues key ≡ s.lot.queues key)
       → c.core ≡ Core.Late p → OwnAct s u t c told (core_next (Core.Late p) told) c.spot
       → Gives (late_act p) (word_at s c.lock) told → IsOwnAct (late_act p)
-      → AfterAct (late_act p) t (inside s) (inside u) → Fitted s u t c told (Core.Late p)
+      → AfterAct (late_stance p) (late_act p) t (entries s c.lock) (entries u c.lock) → Fitted s u t c told (Core.Late p)
   own_late c LatePhase.Leaves ActResult.Made lists_same e a gives own around =
       let kind_is = subst (IsOfKind (slice_get s.kinds c.lock)) e (h.rules.kinds t c a.here) in
       let word : word_at u c.lock ≡ word_at s c.lock = a.word
@@ -232,8 +241,8 @@ module _ (s u : State) (t : ℕ) (h : FitsTogether s) where
       resume_writes by true w = refl
       resume_writes by false w = refl
 
-      resume_leaves : (by : ℕ) (b : Bool) → Crossed (mutex_crossing (mutex.Alone mutex.Leave)) t (inside s) (inside u)
-          → Crossed (mutex_crossing (mutex.Alone (resume_step b by))) t (inside s) (inside u)
+      resume_leaves : (by : ℕ) (b : Bool) → Crossed (mutex_crossing (mutex.Alone mutex.Leave)) t (entries s c.lock) (entries u c.lock)
+          → Crossed (mutex_crossing (mutex.Alone (resume_step b by))) t (entries s c.lock) (entries u c.lock)
       resume_leaves by true x = x
       resume_leaves by false x = x
 
@@ -251,7 +260,7 @@ module _ (s u : State) (t : ℕ) (h : FitsTogether s) where
   module _ (c : Call) (told : ActResult) (lists_same : (key : ℕ) → u.lot.queues key ≡ s.lot.queues key) where
     own_rw : (k : RwCall) → c.core ≡ rw_call k → OwnAct s u t c told (core_next (rw_call k) told) c.spot
         → Gives (core_act (rw_call k)) (word_at s c.lock) told → IsOwnAct (core_act (rw_call k))
-        → AfterAct (core_act (rw_call k)) t (inside s) (inside u) → Fitted s u t c told (rw_call k)
+        → AfterAct (stance (rw_call k)) (core_act (rw_call k)) t (entries s c.lock) (entries u c.lock) → Fitted s u t c told (rw_call k)
     own_rw k e b gives own around =
         let us = taken_by s.wakes t in
         let x = word_at s c.lock in
@@ -262,9 +271,9 @@ module _ (s u : State) (t : ℕ) (h : FitsTogether s) where
         let heard = call_hears k x told (recursive_in s.kinds c.lock) c.others
         (subst (λ (y : Core). has_begun y ≡ true) e (h.rules.begun t c a.here).begun) ready own gives in
         let leads = rw_leads (recursive_in s.kinds c.lock) (rw_lock_at s c.lock) t c.others c.spot us k x told
-        (meets s h t c k e a.here) heard (finds (core_act (rw_call k)) c.lock own around kind_is) a.listed
-        (inside s) (inside u)
-        (call_own t (inside s) (inside u) (recursive_in s.kinds c.lock) c.others us k x told heard ready own around) in
+        (meets s h t c k e a.here) heard (finds (stance (rw_call k)) (core_act (rw_call k)) c.lock own around kind_is) a.listed
+        (entries s c.lock) (entries u c.lock)
+        (call_own t (entries s c.lock) (entries u c.lock) (recursive_in s.kinds c.lock) c.others us k x told heard ready own around) in
         let well = rw_hears s h t c k e a.here told heard (own_wants x k told own gives) u.lot.queues
         (call_learns k told own (u.lot.queues (2 * c.lock)) (u.lot.queues (2 * c.lock + 1))) in (
           as_move k c.others us told c.lock t s u
@@ -274,17 +283,50 @@ module _ (s u : State) (t : ℕ) (h : FitsTogether s) where
               (a.word ∙ ap (λ y. word_after (core_act y) told x) e)
               ∙ same of_rws _ _ _ _ _ _ _ _ refl refl (ap threads_of (lists_same (2 * c.lock)))
               (ap threads_of (lists_same (2 * c.lock + 1))))
-              leads.1 (own_some (call_move c.others us k told) us t (inside s) (inside u)
-              (call_own t (inside s) (inside u) (recursive_in s.kinds c.lock) c.others us k x told heard ready own
+              leads.1 (own_some (call_move c.others us k told) us t (entries s c.lock) (entries u c.lock)
+              (call_own t (entries s c.lock) (entries u c.lock) (recursive_in s.kinds c.lock) c.others us k x told heard ready own
               around))),
           well.0,
           well.1,
           λ m. absurd (two_kinds (sym kind_is ∙ m)),
         )
 
+    -- a mutex has one list
+    ends_first : (again : Bool) → act_crossing Out (cond again Act.Load (Act.Done CoreAnswer.Released))
+        ≡ crossing_of (cond again Act.Load (Act.Done CoreAnswer.Released))
+    ends_first true = refl
+    ends_first false = refl
+
+    crosses_first : (p : MutexPhase) → act_crossing (mutex_stance p) (of_mutex_table.act_of p)
+        ≡ crossing_of (of_mutex_table.act_of p)
+    crosses_first (MutexPhase.Enters woken) = refl
+    crosses_first (MutexPhase.Looks giving) = refl
+    crosses_first (MutexPhase.Retreats woken) = refl
+    crosses_first MutexPhase.Rests = refl
+    crosses_first (MutexPhase.Leaves giving taken handed) = refl
+    crosses_first (MutexPhase.Finishes giving) = ends_first giving.again
+    crosses_first p = refl
+
+    ends_there : (again : Bool) (which : ℕ)
+        → cond again Act.Load (Act.Done CoreAnswer.Released) ≡ Act.Enter (suc which) → ⊥
+    ends_there true which e = cc
+    ends_there false which e = cc
+
+    first_only : (p : MutexPhase) (which : ℕ) → of_mutex_table.act_of p ≡ Act.Enter (suc which) → ⊥
+    first_only (MutexPhase.Enters woken) which e = cc
+    first_only (MutexPhase.Looks giving) which e = cc
+    first_only (MutexPhase.Finishes giving) which e = ends_there giving.again which e
+    first_only p which e = cc
+
+    enters_first : (p : MutexPhase) (which : ℕ) → of_mutex_table.act_of p ≡ Act.Enter which
+        → AfterAct (mutex_stance p) (Act.Enter which) t (entries s c.lock) (entries u c.lock)
+        → entered_in s (bucket s (key c.lock First)) ≡ None
+    enters_first p zero is around = around.0
+    enters_first p (suc which) is around = absurd (first_only p which is)
+
     own_mutex : (k : MutexCore) → c.core ≡ Core.Mutex k → OwnAct s u t c told (core_next (Core.Mutex k) told) c.spot
         → Gives (of_mutex_table.act_of k.phase) (word_at s c.lock) told → IsOwnAct (of_mutex_table.act_of k.phase)
-        → AfterAct (of_mutex_table.act_of k.phase) t (inside s) (inside u)
+        → AfterAct (mutex_stance k.phase) (of_mutex_table.act_of k.phase) t (entries s c.lock) (entries u c.lock)
         → Fitted s u t c told (Core.Mutex k)
     own_mutex k e a gives own around =
         let us = taken_by s.wakes t in
@@ -293,8 +335,8 @@ module _ (s u : State) (t : ℕ) (h : FitsTogether s) where
         let word = a.word ∙ ap (λ y. word_after (core_act y) told x) e in
         let step = steps.own (mutex_at s c.lock) x t (first_of_all us) (mutex_spot c.spot) k.phase told
         (plays s h t c k e a.here (λ w. subst IsOwnAct w own)) gives (own_is (of_mutex_table.act_of k.phase) own)
-        (λ key is. nobody_in_mutex s h (subst (λ (y : Act). AfterAct y t (inside s) (inside u)) is around).0 c.lock
-        kind_is) in
+        (λ which is. nobody_in_mutex s h c.lock (enters_first k.phase which is (subst (λ (y : Act). AfterAct
+        (mutex_stance k.phase) y t (entries s c.lock) (entries u c.lock)) is around)) kind_is) in
         let leads = leads_by (Core.Mutex k) (of_mutex_table.act_of k.phase) x told refl gives in
         let counts : length us ≡ mutex_taken (of_mutex_table.next_phase k.phase told) =
         exact s h t c k e a.here (λ w. subst IsOwnAct w own)
@@ -306,7 +348,8 @@ module _ (s u : State) (t : ℕ) (h : FitsTogether s) where
               (ap (slice_set (mutex_at s c.lock).roles t)
               (role_by of_mutex.Listed us (of_mutex_table.next_phase k.phase told) counts))
               (ap threads_of (lists_same (2 * c.lock))) refl)
-              (subst (λ (y : Crossing). Crossed y t (inside s) (inside u)) (sym step.crossing) around)
+              (subst (λ (y : Crossing). Crossed y t (entries s c.lock) (entries u c.lock))
+              (sym (step.crossing ∙ sym (crosses_first k.phase))) around)
               (own_tells (first_of_all us) us k.phase told own),
           subst (IsPrepared (recursive_in s.kinds c.lock) c.others) e (h.rules.prepared t c a.here),
           mutex_learns (Core.Mutex k) (of_mutex_table.next_phase k.phase told) x told refl refl own gives
@@ -316,7 +359,7 @@ module _ (s u : State) (t : ℕ) (h : FitsTogether s) where
 
     own_so : (x : Core) → c.core ≡ x → OwnAct s u t c told (core_next x told) c.spot
         → Gives (core_act x) (word_at s c.lock) told → IsOwnAct (core_act x)
-        → AfterAct (core_act x) t (inside s) (inside u) → Fitted s u t c told x
+        → AfterAct (stance x) (core_act x) t (entries s c.lock) (entries u c.lock) → Fitted s u t c told x
     own_so (Core.Rw k) e = own_rw (Simple k) e
     own_so (Core.Upgrade k) e = own_rw (Upgradable k) e
     own_so (Core.LateRw p) e = own_rw (Tardy p) e
@@ -324,7 +367,7 @@ module _ (s u : State) (t : ℕ) (h : FitsTogether s) where
     own_so (Core.Late p) e = own_late c p told lists_same e
 
     pub own_fits : OwnAct s u t c told (core_next c.core told) c.spot → Gives (core_act c.core) (word_at s c.lock) told
-        → IsOwnAct (core_act c.core) → AfterAct (core_act c.core) t (inside s) (inside u) → RulesFit u
+        → IsOwnAct (core_act c.core) → AfterAct (stance c.core) (core_act c.core) t (entries s c.lock) (entries u c.lock) → RulesFit u
         × Goes t c told s u
     own_fits a gives own around =
         rules_own s u t c told c.spot a h

@@ -1,5 +1,5 @@
 -- Acts that a thread makes by itself: which moves they are, and who is inside a section then.
-use Rattle.std.proofs.Common.{◌≡◌, ℕ, ◌/◌, ◌==◌, ◌&&◌, cond, Bool, true, false, List, Option}
+use Rattle.std.proofs.Common.{ℕ, ◌/◌, ◌==◌, ◌&&◌, cond, Bool, true, false, List}
 use Rattle.parking_lot_rules.specs.Plain as plain
 use Rattle.parking_lot_rules.specs.Steps.{Alone}
 use Rattle.parking_lot_rules.specs.Family.{crossing}
@@ -18,12 +18,14 @@ use Rattle.parking_lot_protocol.specs.declared.rw_phase.RwPhase.TheVariants.{Unl
 use Rattle.parking_lot_protocol.specs.declared.rw_phase.RwPhase.TheVariants.{Finishes}
 use Rattle.parking_lot_protocol.specs.RwTable.{act_of, is_parked, is_writer_parked, is_barred, has_readers}
 use Rattle.parking_lot_protocol.specs.RwRules.{Move, Stays, Makes, move, mode_of, admission, try_admission, IsTold}
-use Rattle.parking_lot_machine.specs.MutexLaws.{crossing_of}
-use Rattle.parking_lot_machine.proofs.Making.{Crossed, SomeFor}
+use Rattle.parking_lot_machine.specs.RwLaws.{act_crossing}
+use Rattle.parking_lot_machine_calls.specs.Stances.{Stance, rw_stance}
+use Rattle.parking_lot_machine.proofs.Making.{Crossed, Entries, SomeFor}
+use Rattle.parking_lot_rules.specs.Family as crossings
 
--- who is inside after an act of thread t
-abbrev pub AfterAct : Act → ℕ → Option ℕ → Option ℕ → Type 0
-AfterAct a t old new = Crossed (crossing_of a) t old new
+-- who has entered which bucket after an act of thread t, by its stance before
+abbrev pub AfterAct : Stance → Act → ℕ → Entries → Entries → Type 0
+AfterAct a x t old new = Crossed (act_crossing a x) t old new
 
 -- acts that change neither a list nor another thread
 abbrev pub IsOwnAct : Act → Type 0
@@ -37,45 +39,45 @@ IsOwnAct (Act.FetchAnd keep) = ⊥
 IsOwnAct (Act.Done answer) = ⊥
 IsOwnAct a = Unit {0}
 
-abbrev pub OwnMove : Move → ℕ → Option ℕ → Option ℕ → Type 0
-OwnMove Stays t old new = new ≡ old
+abbrev pub OwnMove : Move → ℕ → Entries → Entries → Type 0
+OwnMove Stays t old new = Crossed crossings.Stays t old new
 OwnMove (Makes k) t old new = Crossed (crossing (Alone k)) t old new
 OwnMove m t old new = ⊥
 
 -- and such a move wakes nobody
-pub own_some : (m : Move) (us : List ℕ) (t : ℕ) (old new : Option ℕ) → OwnMove m t old new → SomeFor m us
+pub own_some : (m : Move) (us : List ℕ) (t : ℕ) (old new : Entries) → OwnMove m t old new → SomeFor m us
 own_some Stays us t old new h = tt
 own_some (Makes k) us t old new h = tt
 own_some m us t old new h = absurd h
 
-module _ (t : ℕ) (old new : Option ℕ) where
-  drains : (d : Draining) (b : Bool) → new ≡ old → OwnMove (cond b Stays (Makes (plain.Drain false d.woken))) t old new
+module _ (t : ℕ) (old new : Entries) where
+  drains : (d : Draining) (b : Bool) → Crossed crossings.Stays t old new → OwnMove (cond b Stays (Makes (plain.Drain false d.woken))) t old new
   drains d true h = h
   drains d false h = h
 
-  admits : (n : ℕ) (q : LockMode) (woken : Bool) → new ≡ old → OwnMove (Makes (admission n q woken)) t old new
+  admits : (n : ℕ) (q : LockMode) (woken : Bool) → Crossed crossings.Stays t old new → OwnMove (Makes (admission n q woken)) t old new
   admits n (LockMode.Shared recursive) woken h = h
   admits n LockMode.Exclusive woken h = h
 
-  try_admits : (n : ℕ) (q : LockMode) → new ≡ old → OwnMove (Makes (try_admission n q)) t old new
+  try_admits : (n : ℕ) (q : LockMode) → Crossed crossings.Stays t old new → OwnMove (Makes (try_admission n q)) t old new
   try_admits n (LockMode.Shared recursive) h = h
   try_admits n LockMode.Exclusive h = h
 
-  checks : (q : LockMode) (woken : Bool) (b : Bool) → new ≡ old
+  checks : (q : LockMode) (woken : Bool) (b : Bool) → Crossed crossings.Stays t old new
       → OwnMove (cond b (Makes (plain.Check1 (mode_of q) woken)) Stays) t old new
   checks q woken true h = h
   checks q woken false h = h
 
-  checks2 : (woken : Bool) (b : Bool) → new ≡ old → OwnMove (cond b (Makes (plain.Check2 false woken)) Stays) t old new
+  checks2 : (woken : Bool) (b : Bool) → Crossed crossings.Stays t old new → OwnMove (cond b (Makes (plain.Check2 false woken)) Stays) t old new
   checks2 woken true h = h
   checks2 woken false h = h
 
-  unshares : (n : ℕ) (b : Bool) → new ≡ old → OwnMove (Makes (cond b (plain.UnshareLast n) (plain.Unshare n))) t old new
+  unshares : (n : ℕ) (b : Bool) → Crossed crossings.Stays t old new → OwnMove (Makes (cond b (plain.UnshareLast n) (plain.Unshare n))) t old new
   unshares n true h = h
   unshares n false h = h
 
   pub own_moves : (n : ℕ) (us : List ℕ) (p : RwPhase) (x : ℕ) (s : ActResult) → IsTold p x s → IsOwnAct (act_of p)
-      → AfterAct (act_of p) t old new → OwnMove (move n us p s) t old new
+      → AfterAct (rw_stance p) (act_of p) t old new → OwnMove (move n us p s) t old new
   own_moves n us (Admits a word) x ActResult.Exchanged told own h = admits n a.want a.woken h
   own_moves n us (SetParked a word) x ActResult.Exchanged told own h = h
   own_moves n us (Checks q woken) x (ActResult.Word word) told own h =

@@ -1,5 +1,5 @@
 -- Acts that change nothing but the word and the call of the thread that makes them.
-use Rattle.std.proofs.Common.{Bool, ◌≡◌, ◌≢◌, ℕ, zero, suc, ◌+◌, ◌*◌, ◌<◌, inl, inr, List, [], ◌∷◌, length, Option}
+use Rattle.std.proofs.Common.{Bool, ◌≡◌, ◌≢◌, ℕ, zero, suc, ◌+◌, ◌*◌, ◌<◌, inl, inr, List, [], ◌∷◌, length}
 use Rattle.std.proofs.Common.{Some, slice_get, slice_set, refl, sym, ap, ◌∙◌, subst}
 use Rattle.std.proofs.lemmas.Bool.{cases_eq}
 use Rattle.std.proofs.lemmas.List.{length-set}
@@ -19,7 +19,7 @@ use Rattle.parking_lot_machine.proofs.KindTable.{Kind, IsThere, Elsewhere, one_c
 use Rattle.parking_lot_machine.proofs.KindTable.{roles_at, shown, same, RwCall, rw_call, rw_next}
 use Rattle.parking_lot_machine.proofs.RwCalls.{CallMeets, CallTold, call_lock, call_makes, call_move, call_role}
 use Rattle.parking_lot_machine.proofs.RwCalls.{call_stays}
-use Rattle.parking_lot_machine.proofs.Making.{Crossed, RwLeadsBy}
+use Rattle.parking_lot_machine.proofs.Making.{Crossed, Entries, RwLeadsBy}
 use Rattle.parking_lot_machine.proofs.OwnMoves.{OwnMove}
 use Rattle.parking_lot_machine.proofs.Meeting.{in_range}
 use Rattle.parking_lot_machine.proofs.Calling.{call_of, slot, call-here, call-elsewhere, same-holds}
@@ -36,6 +36,7 @@ pub record OwnAct (s u : State) (t : ℕ) (c : Call) (told : ActResult) (next : 
   pub word : word_at u c.lock ≡ word_after (core_act c.core) told (word_at s c.lock)
   pub words : (i : ℕ) → i ≢ c.lock → word_at u i ≡ word_at s i
   pub queues : (i k : ℕ) → i ≢ c.lock → k < 2 → u.lot.queues (2 * i + k) ≡ s.lot.queues (2 * i + k)
+  pub buckets : u.lot.buckets ≡ s.lot.buckets
   -- one that falls asleep is in its list
   pub listed : (k : ℕ) (token : ParkToken) → stance next ≡ Asleep k token → at ≡ QueuePosition.Listed
 
@@ -100,7 +101,7 @@ module _ (recursive : Bool) (l : Lock) (t n : ℕ) (at : QueuePosition) (us : Li
     (told : ActResult) (here : CallMeets recursive l t n at us k x) (heard : CallTold k x told)
     (found : Finds (core_act (rw_call k)) l)
     (listed : (key : ℕ) (token : ParkToken) → stance (rw_call (rw_next k told)) ≡ Asleep key token
-    → at ≡ QueuePosition.Listed) (old new : Option ℕ) where
+    → at ≡ QueuePosition.Listed) (old new : Entries) where
   abbrev next_lock : Lock
   next_lock = call_lock l t n us k told x
 

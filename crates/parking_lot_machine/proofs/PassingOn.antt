@@ -1,7 +1,7 @@
 -- A taking goes on past whom it has passed.
 use Rattle.std.proofs.Common.{◌≡◌, ◌<◌, ℕ, ◌+◌, ◌*◌, ◌-◌, ◌^◌, ◌&&◌, inl, inr, not, cond, min, Bool, true, false, List}
 use Rattle.std.proofs.Common.{remove, Option, Some, slice_get, refl, sym, ap, ◌∙◌, subst, arith}
-use Rattle.std.specs.Option.{option_and_then, option_map, option_map_or}
+use Rattle.std.specs.Option.{option_map, option_map_or}
 use Rattle.std.proofs.lemmas.Bool.{cases_eq}
 use Rattle.parking_lot_core_model.specs.Places.{passed_of}
 use Rattle.parking_lot_core_model.specs.Results.{is_left}
@@ -33,7 +33,7 @@ use Rattle.parking_lot_machine.specs.Passes.{ArePassed, IsNext, asks, look_by}
 use Rattle.parking_lot_machine.specs.RowActs.{took}
 use Rattle.parking_lot_machine_calls.specs.CallActs.{key_of}
 use Rattle.parking_lot_machine.specs.RowFits.{FitsTogether, LotFits, PassesFit}
-use Rattle.parking_lot_machine.specs.Rows.{State, call_at, word_at}
+use Rattle.parking_lot_machine.specs.Rows.{State, call_at, word_at, bucket, open_at}
 use Rattle.parking_lot_machine_calls.specs.StanceLaws.{Counts, rw_counts}
 use Rattle.parking_lot_machine_calls.specs.Stances.{Stores, Takes, In, Asleep, rw_stance, stance, core_act, core_next}
 use Rattle.parking_lot_machine_calls.specs.declared.open_call.Call.{Call}
@@ -45,7 +45,7 @@ use Rattle.parking_lot_machine.proofs.Passing.{passes_after, skip_on}
 use Rattle.parking_lot_machine.proofs.RwTaking.{scans_go_by_tokens}
 use Rattle.parking_lot_machine_calls.proofs.Stancing.{takings_count}
 use Rattle.parking_lot_machine.proofs.TakeJoins.{late_takes}
-use Rattle.parking_lot_machine.proofs.TakeParts.{took_told, the_sleeper, taker_after, sleeper_after, others_after}
+use Rattle.parking_lot_machine.proofs.TakeParts.{took_told, the_sleeper, taker_after, sleeper_after, others_after, took_on}
 use Rattle.parking_lot_machine_calls.proofs.Lying.{tardy_takes}
 
 abbrev RwNext : Scanning → ℕ → Bool → RwPhase
@@ -201,13 +201,16 @@ module _ (s : State) (t : ℕ) (c : Call) (k nth : ℕ) (w : Waiter) (from : sta
   heard = took_told s c k nth w
 
   own_passed : IsGoing (core_next c.core heard) → Counts c.core w.token → (j : ℕ) (o : Section) → j ≡ k
-      → stance (core_next c.core heard) ≡ In j Takes → u.lot.section ≡ Some o
+      → stance (core_next c.core heard) ≡ In j Takes → open_at u (2 * c.lock + j) ≡ Some o
       → ArePassed (asks (core_act (core_next c.core heard))) (u.lot.queues (2 * c.lock + j)) (passed_of o.phase)
   own_passed then counts j o same is there i v low at =
       let seat = seat_of s h.lots t c (In k Takes) here from in
       let taking : passed_of o.phase ≡ nth =
       ap (λ (x : Option Section). option_map_or (λ (y : Section). passed_of y.phase) x 0)
-      (sym there ∙ ap (option_map {T = Section} (λ y. record y { phase = phase.Taking nth })) seat.1) in
+      (sym there ∙ (ap (λ (n : ℕ). open_at u (2 * c.lock + n)) same
+      ∙ (updated_at s.lot.sections (bucket s (key_of c k))
+      (option_map {T = Section} (λ y. record y { phase = phase.Taking nth }) (open_at s (key_of c k)))
+      ∙ ap (option_map {T = Section} (λ y. record y { phase = phase.Taking nth })) seat.1))) in
       let list : u.lot.queues (2 * c.lock + j) ≡ remove (s.lot.queues (key_of c k)) nth =
       ap (λ n. u.lot.queues (2 * c.lock + n)) same ∙ updated_at s.lot.queues (key_of c k)
       (remove (s.lot.queues (key_of c k)) nth) in
@@ -235,9 +238,7 @@ module _ (s : State) (t : ℕ) (c : Call) (k nth : ℕ) (w : Waiter) (from : sta
       → Gives (core_act c.core) (word_at s c.lock) heard → PassesFit u
   passes_taken lots then counts gives =
       passes_after s u t lots h.passes
-      (inr (inl (let seat = seat_of s h.lots t c (In k Takes) here from in
-      ap (λ (x : Option Section). option_and_then (λ (y : Section). y.thread)
-      (option_map {T = Section} (λ y. record y { phase = phase.Taking nth }) x)) seat.1 ∙ seat.2)))
+      (took_on s t c k nth w from next.there h here).around
       (λ v d j ne at is. elim (cases_eq v w.thread) [
         | inl e ↦ absurd (asleep_takes
             (sym (the_sleeper s t c k nth w from next.there h here).asleep
@@ -250,4 +251,4 @@ module _ (s : State) (t : ℕ) (c : Call) (k nth : ℕ) (w : Waiter) (from : sta
       let x = same_call (sym (taker_after s t c k nth w from next.there h here) ∙ at) in
       subst (λ (y : Call). ArePassed (asks (core_act y.core)) (u.lot.queues (2 * y.lock + j)) (passed_of o.phase)) x
       (let to = ap (λ (y : Call). stance y.core) x ∙ is in own_passed then counts j o (goes counts gives j to) to
-      there))
+      (ap (λ (y : Call). open_at u (2 * y.lock + j)) x ∙ there)))

@@ -6,7 +6,6 @@ use Rattle.std.proofs.lemmas.List.{length-set}
 use Rattle.parking_lot_core_model.specs.declared.parking.ParkToken.{ParkToken}
 use Rattle.parking_lot_core_model.specs.declared.place.Phase.TheVariants as phase
 use Rattle.parking_lot_core_model.specs.Machine.{in_phase}
-use Rattle.parking_lot_core_model.specs.Places.{place_at}
 use Rattle.parking_lot_protocol.specs.MutexTable.{begins}
 use Rattle.parking_lot_protocol.specs.declared.act.ActResult.TheVariants as seen
 use Rattle.parking_lot_protocol.specs.declared.mutex_phase.MutexPhase.{MutexPhase}
@@ -17,8 +16,8 @@ use Rattle.parking_lot_machine.specs.Requeues.{MayJoin, lock_ask, lot_with, retr
 use Rattle.parking_lot_machine.specs.Requeues.{taken_in}
 use Rattle.parking_lot_machine.specs.RowActs.{appended, entered, left, with_call, with_lot, with_word}
 use Rattle.parking_lot_machine_calls.specs.CallActs.{hears, joins, key_of}
-use Rattle.parking_lot_machine.specs.RowFits.{LotFits, Seated, WakesSome}
-use Rattle.parking_lot_machine.specs.Rows.{State, call_at, first_key}
+use Rattle.parking_lot_machine.specs.RowFits.{LotFits, SeatedIn, WakesSome}
+use Rattle.parking_lot_machine.specs.Rows.{State, call_at, first_key, open_at}
 use Rattle.parking_lot_machine_calls.specs.Stances.{stance}
 use Rattle.parking_lot_machine.proofs.Acting.{word-here}
 use Rattle.parking_lot_machine.proofs.Carrying.{Carries, carries_begun}
@@ -35,13 +34,13 @@ roused_lots s v lock timed h low alone =
     let d = retrying_call lock timed in
     quiet s v h low (Some d)
     (subst (λ (o : Option Call). Carries o (Some d)) (sym alone) (carries_begun d tt refl never))
-    (subst (λ (o : Option Call). Seated v o (place_at s.lot.places v) s.lot.section) alone (h.seated v low))
+    (subst (λ (o : Option Call). SeatedIn s.lot v o) alone (h.seated v low))
   where
     never : WakesSome (retrying_call lock timed).core
     never e = cc
 
 module _ (s : State) (v lock : ℕ) (timed : Bool) (h : LotFits s) (low : v < length s.calls) (alone : call_at s v ≡ None)
-    (within : lock < length s.words) (free : s.lot.section ≡ None) where
+    (within : lock < length s.words) (free : open_at s (first_key lock) ≡ None) where
   abbrev parked : ParkToken
   parked = record { 0 = 0 }
 
@@ -68,13 +67,16 @@ module _ (s : State) (v lock : ℕ) (timed : Bool) (h : LotFits s) (low : v < le
   s3 = entered s2 v (call_in (MutexPhase.Enters false)) 0
 
   abbrev s4 : State
-  s4 = with_lot (with_call s3 v (call_in MutexPhase.Appends)) (in_phase s3.lot phase.Valid)
+  s4 = with_lot (with_call s3 v (call_in MutexPhase.Appends)) (in_phase s3.lot (key_of (call_in (MutexPhase.Checks false)) 0) phase.Valid)
 
   abbrev s5 : State
   s5 = appended s4 v (call_in MutexPhase.Appends) (key_of (call_in MutexPhase.Appends) 0) parked
 
   abbrev s6 : State
   s6 = left s5 v (call_in MutexPhase.Rests)
+
+  same_key : key_of (call_in MutexPhase.Appends) 0 ≡ first_key lock
+  same_key = omega arith
 
   set_in : (calls : List (Option Call)) (c d : Call) → v < length calls → v < length (slice_set calls v (Some c))
   set_in calls c d b = subst (λ n. v < n) (sym (length-set calls v (Some c))) b
@@ -102,14 +104,15 @@ module _ (s : State) (v lock : ℕ) (timed : Bool) (h : LotFits s) (low : v < le
   here2 = set_there s1.calls v _ low1
 
   h3 : LotFits s3
-  h3 = acts_keep_fits.enters s2 v (call_in (MutexPhase.Enters false)) 0 free h2 here2 refl
+  h3 = acts_keep_fits.enters s2 v (call_in (MutexPhase.Enters false)) 0 (ap (open_at s) same_key ∙ free) h2 here2 refl
 
   here3 : call_at s3 v ≡ Some (call_in (MutexPhase.Checks false))
   here3 = set_there s2.calls v _ low2
 
   abbrev checked_at : ℕ → State
   checked_at w = let c = hears (call_in (MutexPhase.Checks false)) (seen.Word w) in
-      with_lot (with_call s3 v c) (in_phase s3.lot (cond (joins (stance c.core)) phase.Valid phase.Invalid))
+      with_lot (with_call s3 v c) (in_phase s3.lot (key_of (call_in (MutexPhase.Checks false)) 0) (cond (joins (stance c.core)) phase.Valid
+      phase.Invalid))
 
   h4 : LotFits s4
   h4 = subst (λ w. LotFits (checked_at w)) (word-here s.words lock 3 within)
@@ -132,15 +135,13 @@ module _ (s : State) (v lock : ℕ) (timed : Bool) (h : LotFits s) (low : v < le
       sym (set_twice s4.calls v _ _ ∙ set_twice s3.calls v _ _ ∙ set_twice s2.calls v _ _ ∙ set_twice s1.calls v _ _
       ∙ set_twice s.calls v _ _)
 
-  same_key : key_of (call_in MutexPhase.Appends) 0 ≡ first_key lock
-  same_key = omega arith
-
   pub taken_lots : LotFits (taken_in s v lock timed)
   taken_lots = same_parts s6 (taken_in s v lock timed) same_calls refl (ap (lot_with s.lot v) (sym same_key)) h6
 
   pub may_join : MayJoin s.lot v (first_key lock)
   may_join = subst (MayJoin s.lot v) same_key (record {
-    enters = lot_never_refuses.enters s2 v (call_in (MutexPhase.Enters false)) 0 (h2, here2, refl) free;
+    enters = lot_never_refuses.enters s2 v (call_in (MutexPhase.Enters false)) 0 (h2, here2, refl)
+        (ap (open_at s) same_key ∙ free);
     checks = lot_never_refuses.checks s3 v (call_in (MutexPhase.Checks false)) (h3, here3, refl);
     joins = lot_never_refuses.appends s4 v (call_in MutexPhase.Appends) parked (h4, here4, refl);
     leaves = lot_never_refuses.leaves s5 v (call_in MutexPhase.Rests) (h5, here5, refl);

@@ -19,7 +19,7 @@ use Rattle.parking_lot_machine_calls.specs.declared.seat.Core.{Core}
 use Rattle.parking_lot_machine.specs.Machines.{may_begin}
 use Rattle.parking_lot_machine.specs.Requeues.{IsAttended, core_retries, may_rouse_in, phase_retries, retries_at}
 use Rattle.parking_lot_machine.specs.RowFits.{FitsTogether}
-use Rattle.parking_lot_machine.specs.Rows.{State, call_at, mutex_at, taken_by, word_at}
+use Rattle.parking_lot_machine.specs.Rows.{State, call_at, mutex_at, taken_by, word_at, first_key, open_at}
 use Rattle.parking_lot_machine_calls.specs.CallRoles.{first_of_all, mutex_spot}
 use Rattle.parking_lot_machine.proofs.Meeting.{plays}
 use Rattle.parking_lot_protocol.specs.declared.act.Act.{Act}
@@ -98,7 +98,7 @@ none_entered : (o : Option Section) → not (is_some o) ≡ true → o ≡ None
 none_entered None e = refl
 none_entered (Some x) e = absurd (both_ways false refl e)
 
--- one that may be woken may begin to ask, where no section is open
+-- one that may be woken may begin to ask, where no section is open in the bucket of the list
 pub rouses_by : (s : State) (v lock : ℕ) → may_rouse_in s v lock ≡ true → (may_begin s v lock LockCall.Lock ≡ true)
-    × (s.lot.section ≡ None)
-rouses_by s v lock e = let b = both (may_begin s v lock LockCall.Lock) _ e in (b.0, none_entered s.lot.section b.1)
+    × (open_at s (first_key lock) ≡ None)
+rouses_by s v lock e = let b = both (may_begin s v lock LockCall.Lock) _ e in (b.0, none_entered (open_at s (first_key lock)) b.1)

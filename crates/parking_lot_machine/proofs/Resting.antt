@@ -1,5 +1,5 @@
 -- A machine in which nobody has done anything fits together.
-use Rattle.std.proofs.Common.{◌≡◌, ℕ, zero, suc, ◌+◌, ◌*◌, ◌<◌, ◌≤◌, ◌^◌, ◌==◌, nat_lt, Bool, true, false, List, []}
+use Rattle.std.proofs.Common.{◌≡◌, ℕ, zero, suc, ◌+◌, ◌*◌, ◌<◌, ◌≤◌, ◌^◌, nat_lt, Bool, true, false, List, []}
 use Rattle.std.proofs.Common.{◌∷◌, length, replicate, map, Option, None, Some, slice_get, refl, sym, ap, ◌∙◌, subst}
 use Rattle.std.proofs.Common.{arith, if◌then◌else◌}
 use Rattle.std.proofs.lemmas.List.{length-replicate}
@@ -23,7 +23,7 @@ use Rattle.parking_lot_machine_calls.specs.declared.calls.LockKind.{LockKind}
 use Rattle.parking_lot_machine_calls.specs.declared.open_call.Call.{Call}
 use Rattle.parking_lot_machine_calls.specs.declared.seat.Hold.{Hold}
 use Rattle.parking_lot_machine.specs.Rows.{State, lock_as, call_at, family, hold_at, lock_at, mutex_at, mutex_role_at}
-use Rattle.parking_lot_machine.specs.Rows.{mutex_role_in, mutex_word_of, one_bucket, rw_lock_at, rw_role_at, rw_role_in}
+use Rattle.parking_lot_machine.specs.Rows.{mutex_role_in, bucket, mutex_word_of, rw_lock_at, rw_role_at, rw_role_in}
 use Rattle.parking_lot_machine.specs.Rows.{word_at}
 use Rattle.parking_lot_machine.specs.RowFits.{FitsTogether}
 use Rattle.parking_lot_machine.specs.LotLaws.{IsNew}
@@ -54,9 +54,9 @@ mutex_away_all : (a n : ℕ) → all (λ t. mutex.away) a n ≡ replicate n mute
 mutex_away_all a zero = refl
 mutex_away_all a (suc n) = ap (λ rs. mutex.away ∷ rs) (mutex_away_all (a + 1) n)
 
-module _ (n : ℕ) (ks : List LockKind) where
+module _ (paired : Bool) (n : ℕ) (ks : List LockKind) where
   abbrev s : State
-  s = at_rest n ks
+  s = at_rest paired n ks
 
   nobody : (t : ℕ) → call_at s t ≡ None
   nobody t = all_the_same None n t (option_and_then (λ c. c)) None refl refl
@@ -127,15 +127,11 @@ module _ (n : ℕ) (ks : List LockKind) where
       go (Some AsRw) h = rw h
       go None h = rw h
 
-  free : (b : Bool) (u : ℕ) → (if b then None else None) ≡ Some u → ⊥
-  free true u e = none-some u e
-  free false u e = none-some u e
-
-  resting : SoundFamilyOf AnySound any_inside one_bucket (family s)
+  resting : SoundFamilyOf AnySound any_inside (bucket s) (family s)
   resting = record {
     sound = sound_at;
     entered = λ i x u h. absurd (outside i x u h);
-    is_inside = λ b u e. absurd (free (b == 0) u e);
+    is_inside = λ b u e. absurd (none-some u e);
   }
 
   no_call : {X : Type 0} (t : ℕ) (c : Call) → call_at s t ≡ Some c → X
@@ -155,7 +151,8 @@ module _ (n : ℕ) (ks : List LockKind) where
         lists = λ key. refl;
         runs = λ t at. ap (λ o. option_and_then (λ p. p) o)
             (below (Some Running) n t (omega (arith, at, threads_at_rest)));
-        free = refl;
+        free = λ b. refl;
+        outside = λ t. refl;
       } in
       let fits = new_machines_fit s sound new in
       record {

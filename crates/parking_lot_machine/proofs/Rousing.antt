@@ -139,7 +139,7 @@ is_due s t c h here out some =
     let by_t = first_is_by t s.wakes x.0 x.1 in
     let w : IsTaken s x.0 = h.lots.woken (position_or_len (is_by t) s.wakes) x.0 x.1 in
     let p = due_place s t c h.lots here x.0 w.call x.1 by_t w.here out in
-    (x.0, w.call, p.0, record { first = x.1; there = w.here; sleep = p.1; place = p.2; late = p.3 }, by_t, p.4)
+    (x.0, w.call, p.0, record { first = x.1; there = w.here; key = p.1; sleep = p.2; place = p.3; late = p.4 }, by_t, p.5)
 
 out_asleep : {key : ℕ} {park : ParkToken} → Out ≡ Asleep key park → ⊥
 out_asleep e = cc
@@ -169,10 +169,11 @@ module _ (s : State) (t : ℕ) (c : Call) (h : FitsTogether s) (here : call_at s
   was_off =
       let x = woken_off s t c h.lots here e d due.first mine due.there from in
       let y = due_place s t c h.lots here e d due.first mine due.there from in
-      let token_is : y.0 ≡ token = same_token y.1 due.sleep (sym y.2 ∙ due.place) in
-      (x.1, x.2, x.3 ∙ ap (λ (z : WakeResult). QueuePosition.Off t z) (y.5 ∙ ap told_of token_is), x.4)
+      let token_is : y.0 ≡ token = same_token y.2 due.sleep (sym y.3 ∙ due.place) in
+      (x.1, x.2, x.3 ∙ ap (λ (z : WakeResult). QueuePosition.Off t z) (y.6 ∙ ap told_of token_is), x.4)
     where
-      same_token : {a b : UnparkToken} → (p q : Sleep) → Some (Taken a p false) ≡ Some (Taken b q false) → a ≡ b
+      same_token : {a b : UnparkToken} {i j : ℕ} → (p q : Sleep) → Some (Taken a i p false) ≡ Some (Taken b j q false)
+          → a ≡ b
       same_token p q z = cc
 
   pub same_lock : d.lock ≡ c.lock
@@ -274,7 +275,7 @@ module _ (s : State) (t : ℕ) (c : Call) (h : FitsTogether s) (here : call_at s
   -- nobody takes anybody
   pub passes_roused : stance (core_next c.core seen.Made) ≡ Out → LotFits woke_state → PassesFit woke_state
   passes_roused to lots =
-      passes_after s woke_state t lots h.passes (inr (inr (refl, λ key. refl)))
+      passes_after s woke_state t lots h.passes (λ v k o ne at whose. (at, refl))
       (λ x z k nt at is. elim (cases_eq x e.thread) [
         | inl f ↦ absurd (out_takes
             (sym woken_out ∙ ap (λ (y : Call). stance y.core)
@@ -307,7 +308,7 @@ module _ (s : State) (t : ℕ) (c : Call) (h : FitsTogether s) (here : call_at s
     few = h.rules.few;
     elsewhere = λ j ne. refl;
     bits = fit.3;
-    sound = move_sound s woke_state c.core c.others (taken_by s.wakes t) seen.Made c.lock t fit.0 h.rules.sound;
+    sound = move_sound s woke_state c.core c.others (taken_by s.wakes t) seen.Made c.lock t refl fit.0 h.rules.sound;
   })
 
   -- AT A LOCK OF ANY KIND
@@ -457,7 +458,7 @@ module _ (s : State) (t : ℕ) (c : Call) (h : FitsTogether s) (here : call_at s
               (woke_elsewhere s t c h here e d token due from) kind_is
               (wakes.owns, v, vs, woken.how, woken.stay, wakes.step)
               (roused_after s t c h here e d token due from of_rws k q (rw_next k seen.Made)
-              (rw_next q (seen.Woken token)) mine_is de its_is to x refl) refl tt))),
+              (rw_next q (seen.Woken token)) mine_is de its_is to x refl) (tt, λ b. refl) tt))),
           mine.0,
           mine.1,
           h.rules.bits c.lock,
@@ -495,7 +496,7 @@ module _ (s : State) (t : ℕ) (c : Call) (h : FitsTogether s) (here : call_at s
               ∙ same of_mutexes _ _ _ _ _ _ [] [] refl
               (ap (λ x. slice_set (slice_set (roles_at of_mutexes s c.lock) v x) t
               (of_mutex.role of_mutex.Listed (first_of_all vs) k'.phase)) (mutex_woken ws token)) refl refl)
-              refl one,
+              (tt, λ b. refl) one,
           subst (IsPrepared (recursive_in s.kinds c.lock) c.others) ce (h.rules.prepared t c here),
           tt,
           h.rules.bits c.lock,

@@ -180,7 +180,7 @@ module _ (s u : State) (t : ℕ) (c : Call) (told : ActResult) (at : QueuePositi
       few = λ x i n e. h.rules.few x i n (sym (same-holds s u a.kinds a.holds x i) ∙ e);
       elsewhere = a.words;
       bits = fit.3;
-      sound = move_sound s u c.core c.others (taken_by s.wakes t) told c.lock t fit.0 h.rules.sound;
+      sound = move_sound s u c.core c.others (taken_by s.wakes t) told c.lock t a.buckets fit.0 h.rules.sound;
     }),
     fit.0,
   )

@@ -1,6 +1,6 @@
 -- A call at a reader-writer lock, of shared and exclusive holds or of the upgradable one: what the machine needs of
 -- either.
-use Rattle.std.proofs.Common.{◌≡◌, ◌<◌, ◌≤◌, ℕ, ◌+◌, ◌-◌, ◌*◌, ◌/◌, ◌%◌, ◌^◌, bit_and, cond, Bool, true, false, List, ◌∷◌, length, Option, Some, None, slice_get, slice_set, refl, sym, ap, ◌∙◌, subst, arith}
+use Rattle.std.proofs.Common.{◌≡◌, ◌<◌, ◌≤◌, ℕ, ◌+◌, ◌-◌, ◌*◌, ◌/◌, ◌%◌, ◌^◌, bit_and, cond, Bool, true, false, List, ◌∷◌, length, Option, Some, None, is_some, slice_get, slice_set, refl, sym, ap, ◌∙◌, subst, arith}
 use Rattle.std.proofs.lemmas.Bool.{both_ways}
 use Rattle.parking_lot_core_model.specs.declared.parking.FilterOp.TheVariants.{Unpark}
 use Rattle.parking_lot_core_model.specs.declared.parking.ParkToken.{ParkToken}
@@ -54,9 +54,11 @@ use Rattle.parking_lot_machine.proofs.RwCrossing.{lists_are_known}
 use Rattle.parking_lot_machine.proofs.RwKeeping.{calls_keep}
 use Rattle.parking_lot_machine.proofs.RwWaking.{wakes_one}
 use Rattle.parking_lot_machine.proofs.RwMoving.{answers_are_moves, counted, makes_are_steps, number-word, same_word, sound_word, stays_are_steps, total_most}
-use Rattle.parking_lot_machine.proofs.Sleepers.{by_sleeper, ready_sleeper, takes_nobody, woken_knows, woken_prepared, wanting, draining, seeking, upgrading, no_hold}
+use Rattle.parking_lot_machine.proofs.Sleepers.{by_sleeper, ready_sleeper, sleeps_there, takes_nobody, woken_knows, woken_prepared, wanting, draining, seeking, upgrading, no_hold}
 use Rattle.parking_lot_rules.proofs.Sounds.{step_sound}
 use Rattle.parking_lot_protocol_rw.proofs.UpgradeWords.{high}
+use Rattle.parking_lot_rules.specs.Classes.{bit}
+use Rattle.parking_lot_machine.proofs.Making.{Entries}
 use Rattle.parking_lot_machine.proofs.OwnMoves.{AfterAct, IsOwnAct, OwnMove, own_moves}
 use Rattle.parking_lot_machine.proofs.UpgradeGoing.{UpgradeLearns, knows, upgrades_keep}
 use Rattle.parking_lot_machine.proofs.UpgradeMoving.{upgrades_are_steps}
@@ -356,12 +358,12 @@ resumes_write None rules.Shared by true l t = refl
 resumes_write None rules.Exclusive by true l t = refl
 resumes_write None rules.Upgradable by true l t = refl
 
-resumes_own : (o : Option Bool) (m : Mode) (by : ℕ) (handed : Bool) (t : ℕ) (old new : Option ℕ) → AfterAct (Act.Section section.Leave) t old new → OwnMove (of_rw.Makes (resumes_as o m by handed)) t old new
-resumes_own (Some was) m by handed t old new around = around
-resumes_own None m by false t old new around = around
-resumes_own None rules.Shared by true t old new around = around
-resumes_own None rules.Exclusive by true t old new around = around
-resumes_own None rules.Upgradable by true t old new around = around
+resumes_own : (o : Option Bool) (m : Mode) (by : ℕ) (handed : Bool) (t : ℕ) (old new : Entries) (how : stances.Doing) → AfterAct (stances.In (bit (is_some o)) how) (Act.Section section.Leave) t old new → OwnMove (of_rw.Makes (resumes_as o m by handed)) t old new
+resumes_own (Some was) m by handed t old new how around = around
+resumes_own None m by false t old new how around = around
+resumes_own None rules.Shared by true t old new how around = around
+resumes_own None rules.Exclusive by true t old new how around = around
+resumes_own None rules.Upgradable by true t old new how around = around
 
 pub tardy_makes : (recursive : Bool) (l : Lock) (t n : ℕ) (at : QueuePosition) (us : List ℕ) (p : LateRwPhase) (x : ℕ) (s : ActResult) → CallMeets recursive l t n at us (Tardy p) x → TardyTold p x s → (step : Plain) → tardy_move p s ≡ of_rw.Makes step → IsStep recursive t (Alone step) l (call_lock l t n us (Tardy p) s x)
 tardy_makes recursive l t n at us LateRwPhase.Masks x (ActResult.Before word) h told step e =
@@ -401,20 +403,26 @@ call_makes recursive l t n at us (Upgradable k) x s step h told e found =
     subst (λ m. UpgradeLeads recursive m t n (rw_spot at) us k.phase s x l) e (upgrades_are_steps recursive l t n (rw_spot at) us k.phase x s (as_upgrade recursive l t n at us k x h) told).0 found
 call_makes recursive l t n at us (Tardy p) x s step h told e found = tardy_makes recursive l t n at us p x s h told step e
 
-tardy_own : (t : ℕ) (old new : Option ℕ) (p : LateRwPhase) (x : ℕ) (s : ActResult) → TardyTold p x s → IsOwnAct (late_rw_act p) → AfterAct (late_rw_act p) t old new → OwnMove (tardy_move p s) t old new
-tardy_own t old new LateRwPhase.Leaves x ActResult.Made told own around = around
-tardy_own t old new (LateRwPhase.LeavesPending from) x ActResult.Made told own around = around
-tardy_own t old new (LateRwPhase.WasTaken k by handed) x ActResult.Made told own around = resumes_own (pending_from k) (sleeper_wants k) by handed t old new around
-tardy_own t old new (LateRwPhase.Expires k) x s told own around = absurd own
-tardy_own t old new (LateRwPhase.Quits k) x s told own around = absurd own
-tardy_own t old new LateRwPhase.Masks x s told own around = absurd own
-tardy_own t old new LateRwPhase.GivesUp x s told own around = absurd own
-tardy_own t old new p x s told own around = absurd told
+tardy_own : (t : ℕ) (old new : Entries) (recursive : Bool) (n : ℕ) (p : LateRwPhase) (x : ℕ) (s : ActResult) → TardyTold p x s
+    → late_rw_prepared recursive n p → IsOwnAct (late_rw_act p) → AfterAct (late_rw_stance p) (late_rw_act p) t old new
+    → OwnMove (tardy_move p s) t old new
+tardy_own t old new recursive n LateRwPhase.Leaves x ActResult.Made told ready own around = around
+tardy_own t old new recursive n (LateRwPhase.LeavesPending from) x ActResult.Made told ready own around = around
+tardy_own t old new recursive n (LateRwPhase.WasTaken k by handed) x ActResult.Made told ready own around =
+    let at = sleeps_there k (ready_sleeper recursive n k ready.1) ready.0 in
+    resumes_own (pending_from k) (sleeper_wants k) by handed t old new (stances.Tells (sign false))
+    (subst (λ (a : stances.Stance). AfterAct a (Act.Section section.Leave) t old new)
+    (ap stances.found_as at.2 ∙ ap (λ (key : ℕ). stances.In key (stances.Tells (sign false))) (sym at.3)) around)
+tardy_own t old new recursive n (LateRwPhase.Expires k) x s told ready own around = absurd own
+tardy_own t old new recursive n (LateRwPhase.Quits k) x s told ready own around = absurd own
+tardy_own t old new recursive n LateRwPhase.Masks x s told ready own around = absurd own
+tardy_own t old new recursive n LateRwPhase.GivesUp x s told ready own around = absurd own
+tardy_own t old new recursive n p x s told ready own around = absurd told
 
-pub call_own : (t : ℕ) (old new : Option ℕ) (recursive : Bool) (n : ℕ) (us : List ℕ) (k : RwCall) (x : ℕ) (s : ActResult) → CallTold k x s → IsPrepared recursive n (rw_call k) → IsOwnAct (core_act (rw_call k)) → AfterAct (core_act (rw_call k)) t old new → OwnMove (call_move n us k s) t old new
+pub call_own : (t : ℕ) (old new : Entries) (recursive : Bool) (n : ℕ) (us : List ℕ) (k : RwCall) (x : ℕ) (s : ActResult) → CallTold k x s → IsPrepared recursive n (rw_call k) → IsOwnAct (core_act (rw_call k)) → AfterAct (stance (rw_call k)) (core_act (rw_call k)) t old new → OwnMove (call_move n us k s) t old new
 call_own t old new recursive n us (Simple k) x s told ready own around = own_moves t old new n us k.phase x s told own around
 call_own t old new recursive n us (Upgradable k) x s told ready own around = upgrade_moves t old new n us k.phase s ready.1 ready.2 own around
-call_own t old new recursive n us (Tardy p) x s told ready own around = tardy_own t old new p x s told own around
+call_own t old new recursive n us (Tardy p) x s told ready own around = tardy_own t old new recursive n p x s told ready own around
 
 -- there is room for one reader more
 pub call_room : (recursive : Bool) (l : Lock) (t n : ℕ) (at : QueuePosition) (us : List ℕ) (k : RwCall) (x : ℕ) → CallMeets recursive l t n at us k x → x / 16 < 2 ^ 60 - 1

@@ -15,7 +15,7 @@ use Rattle.parking_lot_protocol.specs.declared.rw_phase.RwPhase.{RwPhase}
 use Rattle.parking_lot_protocol.specs.RwTable.{is_parked, is_writer_parked, is_written, is_upgradable, has_readers}
 use Rattle.parking_lot_protocol.specs.RwTable.{has_room, is_barred, is_admitted, is_tried, count_of, act_of, next_phase}
 use Rattle.parking_lot_protocol.specs.RwTable.{begins}
-use Rattle.parking_lot_machine.specs.Ranks.{View, Sees, wake, scan, comes_after, drains, rw_asks, rw_ends, rw_steps}
+use Rattle.parking_lot_machine.specs.Ranks.{View, Sees, Shut, wake, scan, comes_after, drains, rw_asks, rw_ends, rw_steps}
 use Rattle.parking_lot_machine.specs.Ranks.{vain, rw_parks, drain_parks, keeps_out, keeps_waiting, Unseen, may_find}
 use Rattle.parking_lot_core_model.specs.declared.parking.ParkToken.{ParkToken}
 use Rattle.parking_lot_protocol.specs.declared.act.ActResult.{ActResult}
@@ -39,7 +39,7 @@ use Rattle.parking_lot_rules.specs.Classes.{bit}
 use Rattle.parking_lot_protocol.specs.RwRules.{IsReady}
 use Rattle.parking_lot_core_model.specs.declared.parking.UnparkToken.{UnparkToken}
 use Rattle.parking_lot_protocol.specs.declared.act.Act.{Act}
-use Rattle.parking_lot_machine_calls.specs.Stances.{rw_taken}
+use Rattle.parking_lot_machine_calls.specs.Stances.{rw_stance, rw_taken}
 use Rattle.parking_lot_machine.specs.RankLaws.{RwStepsFall, StopsAt}
 use Rattle.parking_lot_protocol.specs.RwTable as of_rw
 use Rattle.parking_lot_machine.specs.RankLaws as laws
@@ -72,7 +72,7 @@ not_barred LockMode.Exclusive word few e = go (is_written word || is_upgradable 
 
 -- ONE THAT HAS JUST SEEN THE WORD
 
-module _ (n word first : ℕ) (shut : Bool) where
+module _ (n word first : ℕ) (shut : Shut) where
   abbrev AtMost : ℕ → RwPhase → Type 0
   AtMost c p = rw_steps n (Sees word first shut) p ≤ c
 
@@ -167,7 +167,7 @@ bars_same LockMode.Exclusive x y e =
     ap (λ k. (k == 1) || (x / 4 % 2 == 1)) a ∙ ap (λ k. (y / 8 % 2 == 1) || (k == 1)) b
 
 -- the word that says that somebody waits keeps out whom the one before it barred
-flagged : (want : LockMode) (word first : ℕ) (shut : Bool) → word / 16 < 2 ^ 60 - 1 → is_barred want word ≡ true
+flagged : (want : LockMode) (word first : ℕ) (shut : Shut) → word / 16 < 2 ^ 60 - 1 → is_barred want word ≡ true
     → is_parked word ≡ false → keeps_out (Sees ((word + 1) % 2 ^ 64) first shut) want ≡ true
 flagged want word first shut few bar clear =
     let n = eqb-false (word % 2) 1 clear in
@@ -175,7 +175,7 @@ flagged want word first shut few bar clear =
     and_from _ _ (bars_same want ((word + 1) % 2 ^ 64) word (omega (arith, e, n)) ∙ bar)
     (eq-eqb ((word + 1) % 2 ^ 64 % 2) 1 (omega (arith, e, n)))
 
-flagged2 : (word first : ℕ) (shut : Bool) → word / 16 < 2 ^ 60 - 1 → has_readers word ≡ true
+flagged2 : (word first : ℕ) (shut : Shut) → word / 16 < 2 ^ 60 - 1 → has_readers word ≡ true
     → is_writer_parked word ≡ false → keeps_waiting (Sees ((word + 2) % 2 ^ 64) first shut) ≡ true
 flagged2 word first shut few some clear =
     let n = eqb-false (word / 2 % 2) 1 clear in
@@ -214,9 +214,33 @@ opened shut x e = cond-true (not shut) 4 x (not_from_false shut e)
 found : (n first after : ℕ) (shut : Bool) → after ≡ first → cond shut n after ≡ cond shut n first
 found n first after shut e = ap (λ k. cond shut n k) e
 
+-- what is seen costs no more than what isn't
+drains_most : (shut : Bool) → cond (not shut) 4 9 ≤ 9
+drains_most true = omega arith
+drains_most false = omega arith
+
+parks_most : (want : LockMode) (shut : Bool) → cond (not shut) 4 (vain want) ≤ vain want
+parks_most want true = omega arith
+parks_most want false = vain_least want
+
+module _ (word first : ℕ) (shut : Shut) where
+  comes_few : (want : LockMode) → comes_after (Sees word first shut) want ≤ comes_after Unseen want
+  comes_few (LockMode.Shared recursive) = omega arith
+  comes_few LockMode.Exclusive = omega (arith, drains_most shut.second)
+
+  asks_few : (want : LockMode) (rounds : ℕ) → rw_asks (Sees word first shut) want rounds ≤ rw_asks Unseen want rounds
+  asks_few want rounds = omega (arith, parks_most want shut.first, comes_few want)
+
+  ends_few : (rest : AfterWake) → rw_ends (Sees word first shut) rest ≤ rw_ends Unseen rest
+  ends_few AfterWake.FreedShared = omega arith
+  ends_few AfterWake.FreedExclusive = omega arith
+  ends_few AfterWake.Downgraded = omega arith
+  ends_few AfterWake.AgainShared = omega (arith, asks_few (LockMode.Shared false) 10)
+  ends_few AfterWake.AgainExclusive = omega (arith, asks_few LockMode.Exclusive 10)
+
 -- A THREAD THAT CAN GO ON
 
-module _ (n word first after : ℕ) (shut : Bool) where
+module _ (n word first after : ℕ) (shut : Shut) where
   -- from one phase to the next, with that word
   abbrev Lowers : RwPhase → ℕ → RwPhase → Type 0
   Lowers p x q = rw_steps n (Sees x after shut) q + 1 ≤ rw_steps n (Sees word first shut) p
@@ -268,26 +292,28 @@ module _ (n word first after : ℕ) (shut : Bool) where
       go false = omega arith
 
   -- it asks from the beginning, and isn't shut out
-  retreats : (want : LockMode) (woken : Bool) → shut ≡ false → Falls (Retreats want woken) ActResult.Made
-  retreats (LockMode.Shared recursive) woken e = omega (arith, opened shut 30 e)
-  retreats LockMode.Exclusive woken e = omega (arith, opened shut 55 e, opened shut 9 e)
+  retreats : (want : LockMode) (woken : Bool) → shut.first ≡ false → Falls (Retreats want woken) ActResult.Made
+  retreats (LockMode.Shared recursive) woken e = omega (arith, opened shut.first 30 e)
+  retreats LockMode.Exclusive woken e = omega (arith, opened shut.first 56 e, drains_most shut.second)
 
   bumps : (want : LockMode) (v : ℕ) → after ≡ first → Falls (BumpLoads want) (ActResult.Word v)
   bumps (LockMode.Shared recursive) v e =
-      cond_both (is_written v) _ _ (Lowers (BumpLoads (LockMode.Shared recursive)) word) (λ b. omega arith)
-      (λ b. omega arith)
+      cond_both (is_written v) _ _ (Lowers (BumpLoads (LockMode.Shared recursive)) word)
+      (λ b. omega (arith, asks_few word after shut (LockMode.Shared recursive) 10))
+      (λ b. omega (arith, asks_few word after shut (LockMode.Shared recursive) 10))
   bumps LockMode.Exclusive v e = cond_both (is_parked v) _ _ (Lowers (BumpLoads LockMode.Exclusive) word)
-      (λ b. omega (arith, found n first after shut e)) (λ b. omega arith)
+      (λ b. omega (arith, found n first after shut.first e, asks_few word after shut LockMode.Exclusive 10))
+      (λ b. omega (arith, asks_few word after shut LockMode.Exclusive 10))
 
   gives : (rest : AfterWake) (v : ℕ) → Falls (Unshares rest) (ActResult.Before v)
   gives rest v =
       let x : ℕ = (word + (2 ^ 64 - 16)) % 2 ^ 64 in
       cond_both (v / 16 == 1 && is_writer_parked v) _ _ (Lowers (Unshares rest) x) (λ b. omega arith)
-      (λ b. omega (arith, over_cost n (Sees x after shut) rest))
+      (λ b. omega (arith, over_cost n (Sees x after shut) rest, ends_few x after shut rest))
 
   downgrades : (v : ℕ) → after ≡ first → Falls Downgrades (ActResult.Before v)
   downgrades v e = cond_both (is_parked v) _ _ (Lowers Downgrades ((word + 8) % 2 ^ 64))
-      (λ b. omega (arith, found n first after shut e)) (λ b. omega arith)
+      (λ b. omega (arith, found n first after shut.first e)) (λ b. omega arith)
 
   finishes : (rest : AfterWake) (s : ActResult) → Gives (act_of (Finishes rest)) word s → Falls (Finishes rest) s
   finishes AfterWake.AgainShared (ActResult.Word v) g = omega arith
@@ -298,17 +324,17 @@ module _ (n word first after : ℕ) (shut : Bool) where
   abbrev Goes : Scanning → Bool → Option Scanning → Type 0
   Goes a left s = Lowers (Scans a) word (option_map_or (λ q. q) (option_map (of_rw.goes_on left) s) Invalid)
 
-  goes : (a s : Scanning) (left : Bool) → shut ≡ false → first ≡ after + 1 → rw_ends (Sees word after shut) s.rest
+  goes : (a s : Scanning) (left : Bool) → shut.first ≡ false → first ≡ after + 1 → rw_ends (Sees word after shut) s.rest
       ≡ rw_ends (Sees word first shut) a.rest → count_of s ≤ count_of a + 1 → Goes a left (Some s)
   goes a s left free one same more =
       omega (
         arith,
         goes_on_cost n (Sees word after shut) left s,
-        cond-false shut n first free,
-        cond-false shut n after free,
+        cond-false shut.first n first free,
+        cond-false shut.first n after free,
       )
 
-  takes : (a : Scanning) (token : ParkToken) (left : Bool) → shut ≡ false → first ≡ after + 1
+  takes : (a : Scanning) (token : ParkToken) (left : Bool) → shut.first ≡ false → first ≡ after + 1
       → Falls (Scans a) (ActResult.Took (Some token) left)
   takes a token left free one =
       let reader : Scanning = record a { shared = min (a.shared + 1) (2 ^ 32 - 1) } in
@@ -321,8 +347,8 @@ module _ (n word first after : ℕ) (shut : Bool) where
       (λ e. goes a upgrader left free one refl (omega (arith, bit_most a.upgradable)))
       (λ e. omega (arith, end_costs n (Sees word first shut) a.rest))))
 
-module _ (n word first after : ℕ) (shut : Bool) (few : word / 16 < 2 ^ 60 - 1) where
-  pub falls : (p : RwPhase) (s : ActResult) → IsReady p → Gives (act_of p) word s → laws.Can (act_of p) shut s
+module _ (n word first after : ℕ) (shut : Shut) (few : word / 16 < 2 ^ 60 - 1) where
+  pub falls : (p : RwPhase) (s : ActResult) → IsReady p → Gives (act_of p) word s → laws.Can (rw_stance p) (act_of p) shut s
       → laws.Leaves (act_of p) s first after → Falls n word first after shut p s
   unfolding is_round
   falls (Loads a) (ActResult.Word v) ready g c l = omega (arith, seeks_cost n word after shut a v g few)
@@ -336,7 +362,7 @@ module _ (n word first after : ℕ) (shut : Bool) (few : word / 16 < 2 ^ 60 - 1)
   falls (SetParked a from) (ActResult.Word v) ready g c l = lost n word first after shut from _ _ _ g.1
       (omega (arith, seeks_cost n word after shut a v g.0 few))
   falls (Enters want woken) ActResult.Entered ready g c l = enters (is_barred want word && is_parked word) _ _
-      (opened shut (vain want) c) (vain_least want)
+      (opened shut.first (vain want) c) (vain_least want)
   falls (Checks want woken) (ActResult.Word v) ready g c l = checks n word first after shut want woken v g
   falls (Retreats want woken) ActResult.Made ready g c l = retreats n word first after shut want woken c
   falls (Appends want) ActResult.Made ready g c l = omega arith
@@ -349,9 +375,9 @@ module _ (n word first after : ℕ) (shut : Bool) (few : word / 16 < 2 ^ 60 - 1)
   falls (DrainSetParked d from) (ActResult.Word v) ready g c l = lost n word first after shut from _ _ _ g.1
       (omega (arith, drains_cost n word after shut d v g.0))
   falls (DrainEnters d) ActResult.Entered ready g c l = enters2 (has_readers word && is_writer_parked word) _ _
-      (opened shut 9 c)
+      (opened shut.second 9 c)
   falls (DrainChecks d) (ActResult.Word v) ready g c l = checks2 n word first after shut d v g
-  falls (DrainRetreats d) ActResult.Made ready g c l = omega (arith, opened shut 9 c)
+  falls (DrainRetreats d) ActResult.Made ready g c l = omega (arith, opened shut.second 9 c)
   falls (DrainAppends rounds) ActResult.Made ready g c l = omega arith
   falls (DrainRests rounds) ActResult.Made ready g c l = omega arith
   falls (DrainSleeps rounds) (ActResult.Woken token) ready g c l = absurd c
@@ -364,16 +390,16 @@ module _ (n word first after : ℕ) (shut : Bool) (few : word / 16 < 2 ^ 60 - 1)
   falls (Relocks want) (ActResult.Word v) ready g c l =
       omega (arith, seeks_cost n word after shut (begins want false) v g few)
   falls (Unshares rest) (ActResult.Before v) ready g c l = gives n word first after shut rest v
-  falls (EnterWriterWakeSection rest) ActResult.Entered ready g c l = omega arith
+  falls (EnterWriterWakeSection rest) ActResult.Entered ready g c l = omega (arith, ends_few word after shut rest)
   falls (TakeWriter rest) (ActResult.Took token left) ready g c l = omega (arith, bit_most (is_some token))
   falls (ClearWriterParked rest taken) (ActResult.Before v) ready g c l = omega arith
   falls (LeaveWriterWakeSection rest taken) ActResult.Made ready g c l =
       omega (arith, wakes_cost n (Sees word after shut) rest (bit taken))
   falls (Unlocks fair rest) ActResult.Exchanged ready g c l = omega (arith, over_cost n (Sees 0 after shut) rest)
-  falls (Unlocks fair rest) (ActResult.Word v) ready g c l = omega (arith, found n first after shut l)
-  falls (LooksExclusive fair rest) ActResult.Entered ready g c l = omega (arith, found n first after shut l)
+  falls (Unlocks fair rest) (ActResult.Word v) ready g c l = omega (arith, found n first after shut.first l)
+  falls (LooksExclusive fair rest) ActResult.Entered ready g c l = omega (arith, found n first after shut.first l)
   falls Downgrades (ActResult.Before v) ready g c l = downgrades n word first after shut v l
-  falls EnterWakeSection ActResult.Entered ready g c l = omega (arith, found n first after shut l)
+  falls EnterWakeSection ActResult.Entered ready g c l = omega (arith, found n first after shut.first l)
   falls (Scans a) (ActResult.Took (Some token) left) ready g c l = takes n word first after shut a token left c l
   falls (Scans a) (ActResult.Took None left) ready g c l = omega arith
   falls (Stores a left) (ActResult.Stored fair) ready g c l = omega arith
@@ -429,97 +455,93 @@ woken n p token = omega arith
 
 -- ONE OF WHICH LESS IS KNOWN
 
-module _ (n word first : ℕ) (shut : Bool) (h : first ≤ n) where
+module _ (n word first : ℕ) (shut : Shut) (h : first ≤ n) where
   abbrev v : View
   v = Sees word first shut
 
-  parks_few : (want : LockMode) → rw_parks v want ≤ vain want
-  parks_few want = if_either (not shut) 4 (vain want) (vain want) (vain_least want) (omega arith)
-
-  drains_few : drain_parks v ≤ 9
-  drains_few = if_either (not shut) 4 9 9 (omega arith) (omega arith)
-
-  comes_few : (want : LockMode) → comes_after v want ≤ comes_after Unseen want
-  comes_few (LockMode.Shared recursive) = omega arith
-  comes_few LockMode.Exclusive = omega (arith, drains_few)
-
-  ends_few : (rest : AfterWake) → rw_ends v rest ≤ rw_ends Unseen rest
-  ends_few AfterWake.FreedShared = omega arith
-  ends_few AfterWake.FreedExclusive = omega arith
-  ends_few AfterWake.Downgraded = omega arith
-  ends_few AfterWake.AgainShared = omega (arith, parks_few (LockMode.Shared false))
-  ends_few AfterWake.AgainExclusive = omega (arith, parks_few LockMode.Exclusive, drains_few)
-
   found_few : may_find n v ≤ n
-  found_few = if_either shut n first n (omega arith) h
+  found_few = if_either shut.first n first n (omega arith) h
 
   few : (p : RwPhase) → rw_steps n v p ≤ rw_steps n Unseen p
-  few (Loads a) = omega (arith, parks_few a.want, comes_few a.want)
-  few (Admits a from) = if_either (word == from) _ _ _ (omega (arith, comes_few a.want))
-      (omega (arith, parks_few a.want, comes_few a.want))
-  few (Spins a) = omega (arith, parks_few a.want, comes_few a.want)
-  few (SetParked a from) = if_either (word == from) _ _ _ (omega (arith, parks_few a.want))
-      (omega (arith, parks_few a.want, comes_few a.want))
-  few (Enters want again) = if_either (is_barred want word && is_parked word) _ _ _ (parks_few want) (omega arith)
+  few (Loads a) = omega (arith, parks_most a.want shut.first, comes_few word first shut a.want)
+  few (Admits a from) = if_either (word == from) _ _ _ (omega (arith, comes_few word first shut a.want))
+      (omega (arith, parks_most a.want shut.first, comes_few word first shut a.want))
+  few (Spins a) = omega (arith, parks_most a.want shut.first, comes_few word first shut a.want)
+  few (SetParked a from) = if_either (word == from) _ _ _ (omega (arith, parks_most a.want shut.first))
+      (omega (arith, parks_most a.want shut.first, comes_few word first shut a.want))
+  few (Enters want again) = if_either (is_barred want word && is_parked word) _ _ _ (parks_most want shut.first) (omega arith)
   few (Checks want again) = if_either (is_barred want word && is_parked word) _ _ _ (omega (arith, vain_least want))
       (omega arith)
-  few (DrainLoads d) = omega (arith, drains_few)
-  few (DrainSpins d) = omega (arith, drains_few)
-  few (DrainSetParked d from) = if_either (word == from) _ _ _ (omega (arith, drains_few)) (omega (arith, drains_few))
-  few (DrainEnters d) = if_either (has_readers word && is_writer_parked word) _ _ _ (omega (arith, drains_few))
+  few (DrainLoads d) = omega (arith, drains_most shut.second)
+  few (DrainSpins d) = omega (arith, drains_most shut.second)
+  few (DrainSetParked d from) = if_either (word == from) _ _ _ (omega (arith, drains_most shut.second)) (omega (arith, drains_most shut.second))
+  few (DrainEnters d) = if_either (has_readers word && is_writer_parked word) _ _ _ (omega (arith, drains_most shut.second))
       (omega arith)
   few (DrainChecks d) = if_either (has_readers word && is_writer_parked word) _ _ _ (omega arith) (omega arith)
   few (TryAdmits want from left) = if_either (word == from) _ _ _ (omega arith) (omega arith)
-  few (BumpLoads want) = omega (arith, found_few, parks_few want, comes_few want)
-  few (Relocks want) = omega (arith, parks_few want, comes_few want)
-  few (Unshares rest) = omega (arith, ends_few rest)
-  few (EnterWriterWakeSection rest) = omega (arith, ends_few rest)
-  few (TakeWriter rest) = omega (arith, ends_few rest)
-  few (ClearWriterParked rest taken) = omega (arith, ends_few rest)
-  few (LeaveWriterWakeSection rest taken) = omega (arith, ends_few rest)
-  few (Unlocks fair rest) = omega (arith, found_few, ends_few rest)
-  few (LooksExclusive fair rest) = omega (arith, found_few, ends_few rest)
+  few (BumpLoads want) = omega (arith, found_few, parks_most want shut.first, comes_few word first shut want)
+  few (Relocks want) = omega (arith, parks_most want shut.first, comes_few word first shut want)
+  few (Unshares rest) = omega (arith, ends_few word first shut rest)
+  few (EnterWriterWakeSection rest) = omega (arith, ends_few word first shut rest)
+  few (TakeWriter rest) = omega (arith, ends_few word first shut rest)
+  few (ClearWriterParked rest taken) = omega (arith, ends_few word first shut rest)
+  few (LeaveWriterWakeSection rest taken) = omega (arith, ends_few word first shut rest)
+  few (Unlocks fair rest) = omega (arith, found_few, ends_few word first shut rest)
+  few (LooksExclusive fair rest) = omega (arith, found_few, ends_few word first shut rest)
   few Downgrades = omega (arith, found_few)
   few EnterWakeSection = omega (arith, found_few)
-  few (Scans s) = omega (arith, found_few, ends_few s.rest)
-  few (Stores s left) = omega (arith, ends_few s.rest)
-  few (Leaves rest count handed) = omega (arith, ends_few rest)
-  few (Wakes rest count) = omega (arith, ends_few rest)
-  few (Finishes rest) = ends_few rest
+  few (Scans s) = omega (arith, found_few, ends_few word first shut s.rest)
+  few (Stores s left) = omega (arith, ends_few word first shut s.rest)
+  few (Leaves rest count handed) = omega (arith, ends_few word first shut rest)
+  few (Wakes rest count) = omega (arith, ends_few word first shut rest)
+  few (Finishes rest) = ends_few word first shut rest
   few p = omega arith
 
 -- ONE THAT STOPS
 
-ends_same : (n word first : ℕ) (rest : AfterWake) → rw_ends Unseen rest ≡ rw_ends (Sees word first true) rest
-ends_same n word first AfterWake.FreedShared = refl
-ends_same n word first AfterWake.FreedExclusive = refl
-ends_same n word first AfterWake.Downgraded = refl
-ends_same n word first AfterWake.AgainShared = refl
-ends_same n word first AfterWake.AgainExclusive = refl
+module _ (n word first : ℕ) (shut : Shut) (e : shut.first ≡ true) where
+  all_found : may_find n (Sees word first shut) ≡ n
+  all_found = cond-true shut.first n first e
 
-same : (b : Bool) (x : ℕ) → x ≤ cond b x x
-same true x = omega arith
-same false x = omega arith
+  parks_all : (want : LockMode) → rw_parks (Sees word first shut) want ≡ vain want
+  parks_all want = ap (λ b. cond (not b) 4 (vain want)) e
 
-finishes_on : (rest : AfterWake) (shut : Bool) → StopsAt (act_of (Finishes rest)) shut → ⊥
+  ends_all : (rest : AfterWake) → rw_ends Unseen rest ≤ rw_ends (Sees word first shut) rest
+  ends_all AfterWake.FreedShared = omega arith
+  ends_all AfterWake.FreedExclusive = omega arith
+  ends_all AfterWake.Downgraded = omega arith
+  ends_all AfterWake.AgainShared = omega (arith, parks_all (LockMode.Shared false))
+  ends_all AfterWake.AgainExclusive = omega (arith, parks_all LockMode.Exclusive)
+
+  enters_all : (b : Bool) (want : LockMode) → vain want ≤ cond b (rw_parks (Sees word first shut) want) (vain want)
+  enters_all true want = omega (arith, parks_all want)
+  enters_all false want = omega arith
+
+drain_all : (shut : Bool) → shut ≡ true → 9 ≤ cond (not shut) 4 9
+drain_all shut e = subst (λ (t : Bool). 9 ≤ cond (not t) 4 9) (sym e) (omega arith)
+
+drain_enters : (b : Bool) (shut : Bool) (more : ℕ) → shut ≡ true → 9 + more ≤ cond b (cond (not shut) 4 9 + more)
+    (9 + more)
+drain_enters true shut more e = omega (arith, drain_all shut e)
+drain_enters false shut more e = omega arith
+
+finishes_on : (rest : AfterWake) (shut : Shut) → StopsAt (act_of (Finishes rest)) shut → ⊥
 finishes_on AfterWake.FreedShared shut at = at
 finishes_on AfterWake.FreedExclusive shut at = at
 finishes_on AfterWake.Downgraded shut at = at
 finishes_on AfterWake.AgainShared shut at = at
 finishes_on AfterWake.AgainExclusive shut at = at
 
-stops : (n : ℕ) (p : RwPhase) (word first : ℕ) (shut : Bool) → StopsAt (act_of p) shut
+stops : (n : ℕ) (p : RwPhase) (word first : ℕ) (shut : Shut) → StopsAt (act_of p) shut
     → rw_steps n Unseen p ≤ rw_steps n (Sees word first shut) p
-stops n (Enters want again) word first true at = same (is_barred want word && is_parked word) (vain want)
-stops n (Enters want again) word first false at = absurd (both_ways false refl at)
-stops n (DrainEnters d) word first true at = same (has_readers word && is_writer_parked word) (9 + 2 * d.rounds)
-stops n (DrainEnters d) word first false at = absurd (both_ways false refl at)
-stops n (EnterWriterWakeSection rest) word first true at = omega (arith, ends_same n word first rest)
-stops n (EnterWriterWakeSection rest) word first false at = absurd (both_ways false refl at)
-stops n (LooksExclusive fair rest) word first true at = omega (arith, ends_same n word first rest)
-stops n (LooksExclusive fair rest) word first false at = absurd (both_ways false refl at)
-stops n EnterWakeSection word first true at = omega arith
-stops n EnterWakeSection word first false at = absurd (both_ways false refl at)
+stops n (Enters want again) word first shut at =
+    enters_all n word first shut at (is_barred want word && is_parked word) want
+stops n (DrainEnters d) word first shut at =
+    drain_enters (has_readers word && is_writer_parked word) shut.second (2 * d.rounds) at
+stops n (EnterWriterWakeSection rest) word first shut at = omega arith
+stops n (LooksExclusive fair rest) word first shut at =
+    omega (arith, ends_all n word first shut at rest, all_found n word first shut at)
+stops n EnterWakeSection word first shut at = omega (arith, all_found n word first shut at)
 stops n (Sleeps want) word first shut at = omega arith
 stops n (DrainSleeps rounds) word first shut at = omega arith
 stops n (Finishes rest) word first shut at = absurd (finishes_on rest shut at)

@@ -1,6 +1,6 @@
 -- A call at a reader-writer lock, of shared and exclusive holds or of the upgradable one: who is told by a store, where
 -- it joins a list, and where it begins and ends.
-use Rattle.std.proofs.Common.{◌≡◌, ℕ, ◌+◌, ◌*◌, ◌++◌, ◌∷◌, ◌⊎◌, inl, inr, Bool, true, false, List, [], Option, Some}
+use Rattle.std.proofs.Common.{◌≡◌, ℕ, ◌+◌, ◌*◌, ◌++◌, ◌∷◌, ◌⊎◌, inl, inr, Bool, true, false, List, [], Some}
 use Rattle.std.proofs.Common.{None, slice_get, refl, sym, ap, ◌∙◌, subst}
 use Rattle.parking_lot_core_model.specs.declared.parking.ParkToken.{ParkToken}
 use Rattle.parking_lot_core_model.specs.declared.place.Waiter.{Waiter}
@@ -36,6 +36,7 @@ use Rattle.parking_lot_machine_calls.specs.declared.seat.Hold.{Hold}
 use Rattle.parking_lot_machine_calls.specs.declared.seat.QueuePosition.{QueuePosition}
 use Rattle.parking_lot_machine_calls.specs.declared.seat.WakeResult.{WakeResult}
 use Rattle.parking_lot_machine.proofs.KindTable.{RwCall, Simple, Upgradable, rw_call, rw_next, Tardy}
+use Rattle.parking_lot_machine.proofs.Making.{Entries}
 use Rattle.parking_lot_machine.proofs.OwnMoves.{OwnMove}
 use Rattle.parking_lot_machine.proofs.RwCalls.{CallLearns, CallMeets, CallStands, CallTold, as_simple, as_upgrade}
 use Rattle.parking_lot_machine.proofs.RwCalls.{call_move, call_role}
@@ -299,7 +300,7 @@ call_joins recursive l t n at us (Tardy p) x key token h e = absurd (tardy_joins
 -- WHERE IT BEGINS
 
 pub record CallStarts (recursive : Bool) (l : Lock) (t n : ℕ) (at : QueuePosition) (us : List ℕ) (k : RwCall) (x : ℕ)
-    (hold : Hold) (o : Option ℕ) : Type 0 where
+    (hold : Hold) (o : Entries) : Type 0 where
   pub role : call_role n at us k ≡ record { owns = owned_of hold; does = Idle }
   pub stands : CallStands recursive n us k
   pub told : CallTold k x ActResult.Start
@@ -309,17 +310,17 @@ pub record CallStarts (recursive : Bool) (l : Lock) (t n : ℕ) (at : QueuePosit
 
 -- What a phase in which a reader-writer call begins needs, finds and knows; and its start is a move of its own, or
 -- none.
-begin_rw : (recursive : Bool) (t n : ℕ) (us : List ℕ) (p : RwPhase) (l : Lock) (o : Option ℕ) (f g : List Waiter)
+begin_rw : (recursive : Bool) (t n : ℕ) (us : List ℕ) (p : RwPhase) (l : Lock) (o : Entries) (f g : List Waiter)
     → rw_begun p ≡ false → rw_begins recursive n p
     → rw_prepared recursive n us p × Finds (rw_table.act_of p) l × OwnMove (of_rw.move n us p ActResult.Start) t o o
     × Learns p ActResult.Start f g × rw_knows p f g
-begin_rw recursive t n us (RwPhase.Locking q) l o f g b h = (h, tt, refl, tt, tt)
-begin_rw recursive t n us (RwPhase.Trying q) l o f g b h = (h, tt, refl, tt, tt)
-begin_rw recursive t n us RwPhase.UnlockingShared l o f g b h = (tt, tt, refl, tt, tt)
-begin_rw recursive t n us (RwPhase.UnlockingExclusive fair) l o f g b h = (tt, tt, refl, tt, tt)
-begin_rw recursive t n us RwPhase.Downgrading l o f g b h = (tt, tt, refl, tt, tt)
-begin_rw recursive t n us RwPhase.BumpingShared l o f g b h = (tt, tt, refl, tt, tt)
-begin_rw recursive t n us RwPhase.BumpingExclusive l o f g b h = (tt, tt, refl, tt, tt)
+begin_rw recursive t n us (RwPhase.Locking q) l o f g b h = (h, tt, (tt, λ i. refl), tt, tt)
+begin_rw recursive t n us (RwPhase.Trying q) l o f g b h = (h, tt, (tt, λ i. refl), tt, tt)
+begin_rw recursive t n us RwPhase.UnlockingShared l o f g b h = (tt, tt, (tt, λ i. refl), tt, tt)
+begin_rw recursive t n us (RwPhase.UnlockingExclusive fair) l o f g b h = (tt, tt, (tt, λ i. refl), tt, tt)
+begin_rw recursive t n us RwPhase.Downgrading l o f g b h = (tt, tt, (tt, λ i. refl), tt, tt)
+begin_rw recursive t n us RwPhase.BumpingShared l o f g b h = (tt, tt, (tt, λ i. refl), tt, tt)
+begin_rw recursive t n us RwPhase.BumpingExclusive l o f g b h = (tt, tt, (tt, λ i. refl), tt, tt)
 begin_rw recursive t n us p l o f g b h = absurd h
 
 begin_finds : (p : UpgradePhase) (l : Lock) → upgrade_begins p → Finds (upgrade_table.act_of p) l
@@ -344,7 +345,7 @@ begin_knows UpgradePhase.DowngradingToUpgradable f k = tt
 begin_knows p f k = absurd k
 
 pub call_starts : (recursive : Bool) (l : Lock) (t n : ℕ) (at : QueuePosition) (us : List ℕ) (k : RwCall) (x : ℕ)
-    (hold : Hold) (o : Option ℕ) → OwnsFor recursive hold n (rw_call k) → CallStarts recursive l t n at us k x hold o
+    (hold : Hold) (o : Entries) → OwnsFor recursive hold n (rw_call k) → CallStarts recursive l t n at us k x hold o
 call_starts recursive l t n at us (Simple k) x hold o owns =
     let ready = begins_are_ready n (rw_spot at) us k.phase x owns.0 in
     let well = begin_rw recursive t n us k.phase l o [] [] owns.0 owns.1 in
@@ -368,13 +369,17 @@ call_starts recursive l t n at us (Upgradable k) x hold o owns =
       begun = owns.0;
     }
 
+-- where nobody has entered anything
+nobody : Entries
+nobody = record { bucket = λ key. key; lock = 0; entered = λ b. None }
+
 pub call_started : (recursive : Bool) (l : Lock) (t n : ℕ) (at : QueuePosition) (us : List ℕ) (k : RwCall) (x : ℕ)
     (hold : Hold) (j : ℕ) (queues : ℕ → List Waiter) → OwnsFor recursive hold n (rw_call k)
     → CallMeets recursive l t n at us k x → CallTold k x ActResult.Start
     → IsPrepared recursive n (rw_call (rw_next k ActResult.Start)) × KnowsList (rw_call (rw_next k ActResult.Start))
     queues j
 call_started recursive l t n at us (Simple k) x hold j queues owns h told =
-    let well = begin_rw recursive t n us k.phase l None (queues (2 * j)) (queues (2 * j + 1)) owns.0 owns.1 in (
+    let well = begin_rw recursive t n us k.phase l nobody (queues (2 * j)) (queues (2 * j + 1)) owns.0 owns.1 in (
       (
         (answers_are_moves recursive l t n (rw_spot at) us k.phase x ActResult.Start
             (as_simple recursive l t n at us k x h) told).2.1,
@@ -395,18 +400,18 @@ call_last n (Simple k) = of_rw.last_move n k.phase
 call_last n (Upgradable k) = of_upgrade_moves.last_move n k.phase
 call_last n (Tardy p) = of_rw.Stays
 
-rw_last_own : (t n : ℕ) (p : RwPhase) (o : Option ℕ) → OwnMove (of_rw.last_move n p) t o o
-rw_last_own t n (RwPhase.Refuses q) o = refl
-rw_last_own t n p o = refl
+rw_last_own : (t n : ℕ) (p : RwPhase) (o : Entries) → OwnMove (of_rw.last_move n p) t o o
+rw_last_own t n (RwPhase.Refuses q) o = (tt, λ b. refl)
+rw_last_own t n p o = (tt, λ b. refl)
 
-upgrade_last_own : (t n : ℕ) (p : UpgradePhase) (o : Option ℕ) → OwnMove (of_upgrade_moves.last_move n p) t o o
+upgrade_last_own : (t n : ℕ) (p : UpgradePhase) (o : Entries) → OwnMove (of_upgrade_moves.last_move n p) t o o
 upgrade_last_own t n (UpgradePhase.Plain core) o = rw_last_own t n core.phase o
-upgrade_last_own t n p o = refl
+upgrade_last_own t n p o = (tt, λ b. refl)
 
-pub call_last_own : (t n : ℕ) (k : RwCall) (o : Option ℕ) → OwnMove (call_last n k) t o o
+pub call_last_own : (t n : ℕ) (k : RwCall) (o : Entries) → OwnMove (call_last n k) t o o
 call_last_own t n (Simple k) o = rw_last_own t n k.phase o
 call_last_own t n (Upgradable k) o = upgrade_last_own t n k.phase o
-call_last_own t n (Tardy p) o = refl
+call_last_own t n (Tardy p) o = (tt, λ b. refl)
 
 kept_owned : (kept : kept_holds.Hold) → of_upgrade.owned kept ≡ owned_of (kept_hold kept)
 kept_owned keeps_up.Nothing = refl

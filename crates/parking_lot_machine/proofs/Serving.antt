@@ -43,11 +43,15 @@ use Rattle.parking_lot_machine_calls.specs.declared.open_call.Call.{Call}
 use Rattle.parking_lot_machine_calls.specs.CallViews.{mutex_mode, rw_mode}
 use Rattle.parking_lot_machine.specs.Machines.{can_move, can_move_in, goes_late, is_asleep, is_asleep_in, is_possible}
 use Rattle.parking_lot_machine.specs.Machines.{is_taken, sleeps}
+use Rattle.parking_lot_machine_calls.specs.CallActs.{key_of}
+use Rattle.parking_lot_core_model.proofs.Entering.{same_some}
+use Rattle.parking_lot_machine.proofs.LotActs.{no_section}
+use Rattle.std.proofs.lemmas.Option.{none-some}
 use Rattle.parking_lot_machine.proofs.InTime.{frees_same, mutex_in_time, owes_same, rw_in_time, seeks_same}
 use Rattle.parking_lot_machine.proofs.InTime.{upgrade_in_time}
-use Rattle.parking_lot_machine.specs.RowFits.{FitsTogether, Stands, Seated}
+use Rattle.parking_lot_machine.specs.RowFits.{FitsTogether, Stands, SeatedIn}
 use Rattle.parking_lot_machine_calls.specs.CallKinds.{IsOfKind, IsOfManner}
-use Rattle.parking_lot_machine.specs.Rows.{State, lock_as, mutex_at, rw_lock_at, call_at, everybody, hold_at, lock_at}
+use Rattle.parking_lot_machine.specs.Rows.{State, bucket, call_at, everybody, hold_at, lock_as, lock_at, mutex_at, open_at, rw_lock_at}
 use Rattle.parking_lot_machine.specs.Rows.{mutex_role_at, rw_role_at, taken_by}
 use Rattle.parking_lot_machine_calls.specs.CallRoles.{mutex_spot, rw_spot}
 use Rattle.parking_lot_machine.specs.SoundLaws.{IsApart, SomebodyCanMove, SomebodyKeeps}
@@ -61,7 +65,7 @@ use Rattle.parking_lot_machine.proofs.KindTable.{MutexCall, Plain, Late, mutex_c
 use Rattle.parking_lot_machine.proofs.KindTable.{role_now}
 use Rattle.parking_lot_machine.proofs.Meeting.{in_range, mutex_sound, rw_sound}
 use Rattle.parking_lot_machine_calls.specs.declared.late_rw.LateRwPhase.{LateRwPhase}
-use Rattle.parking_lot_machine_calls.specs.LateCalls.{comes_late, is_back, is_pending, late_is_back, late_rw_is_back}
+use Rattle.parking_lot_machine_calls.specs.LateCalls.{comes_late, is_back, is_pending, late_is_back, late_rw_is_back, late_key}
 use Rattle.parking_lot_machine_calls.specs.LateCalls.{sleeps_in_time}
 use Rattle.parking_lot_machine_calls.proofs.Lying.{lies_out}
 use Rattle.parking_lot_rules.specs.Classes.{bit}
@@ -302,6 +306,11 @@ keeps_rw (Shares (suc n)) ne = (OwnMode.Shared, refl)
 keeps_rw Excludes ne = (OwnMode.Exclusive, refl)
 keeps_rw Upgrades ne = (OwnMode.Upgradable, refl)
 
+-- which section an act enters
+enters : Act → Option ℕ
+enters (Act.Enter k) = Some k
+enters a = None
+
 module _ (s : State) (h : FitsTogether s) where
   -- WHO CAN MOVE
 
@@ -309,37 +318,48 @@ module _ (s : State) (h : FitsTogether s) where
   Moves = (u : ℕ) × (can_move s u ≡ true)
 
   -- where a section is open, the one inside can
-  module _ (o : Section) (is : s.lot.section ≡ Some o) where
+  module _ (b : ℕ) (o : Section) (is : s.lot.sections b ≡ Some o) where
     abbrev whose : ℕ
-    whose = (h.lots.opened o is).0
+    whose = (h.lots.opened b o is).0
+
+    in_none : s.lot.inside whose ≡ None → ⊥
+    in_none out = no_section s h.lots whose b o out is (h.lots.opened b o is).1
 
     at_work : (c : Call) (a : Stance) → stance c.core ≡ a → Stands whose c.lock a c.spot (place_at s.lot.places whose)
-        s.lot.section → can_move_in s (Some c) ≡ true
-    at_work c Out e st = absurd (st.1 o is (h.lots.opened o is).1)
+        (s.lot.inside whose) (open_at s) → can_move_in s (Some c) ≡ true
+    at_work c Out e st = absurd (in_none st.1)
     at_work c (In k how) e st = inside_possible s c c.core k how e
-    at_work c (stances.Asleep k token) e st = absurd (st.1 o is (h.lots.opened o is).1)
+    at_work c (stances.Asleep k token) e st = absurd (in_none st.1)
 
-    pub goes_on : (call : Option Call) → Seated whose call (place_at s.lot.places whose) s.lot.section
-        → can_move_in s call ≡ true
-    goes_on None seated = absurd (seated.1 o is (h.lots.opened o is).1)
+    pub goes_on : (call : Option Call) → SeatedIn s.lot whose call → can_move_in s call ≡ true
+    goes_on None seated = absurd (in_none seated.1)
     goes_on (Some c) seated = at_work c (stance c.core) refl seated
 
     inside_moves : (u : ℕ) × (can_move s u ≡ true)
-    inside_moves = (whose, goes_on (call_at s whose) (h.lots.seated whose (h.lots.opened o is).2))
+    inside_moves = (whose, goes_on (call_at s whose) (h.lots.seated whose (h.lots.opened b o is).2))
 
-  -- where a thread in a call is awake, it can move, or the one inside a section
+  -- where a thread in a call is awake, it can move, or the one inside the section that it is before
   awake_moves : (t : ℕ) (c : Call) → call_at s t ≡ Some c → sleeps (core_act c.core) ≡ false → (u : ℕ)
       × (can_move s u ≡ true)
-  awake_moves t c here awake = go s.lot.section refl
+  unfolding enters
+  awake_moves t c here awake = go (enters (core_act c.core)) refl
     where
-      go : (o : Option Section) → s.lot.section ≡ o → (u : ℕ) × (can_move s u ≡ true)
-      go None is = (
+      moves : ((k : ℕ) → core_act c.core ≡ Act.Enter k → is_taken s c k ≡ false) → (u : ℕ) × (can_move s u ≡ true)
+      moves free = (
         t,
         ap (can_move_in s) here
-            ∙ or_else (goes_late s c c.core)
-            (possible_alone (is_taken s c) (core_act c.core) awake (λ k e. ap is_some is)),
+            ∙ or_else (goes_late s c c.core) (possible_alone (is_taken s c) (core_act c.core) awake free),
       )
-      go (Some o) is = inside_moves o is
+
+      there : (k : ℕ) → enters (core_act c.core) ≡ Some k → (o : Option Section) → open_at s (key_of c k) ≡ o → (u : ℕ)
+          × (can_move s u ≡ true)
+      there k e None is = moves (λ j f. ap is_some
+          (ap (λ (n : ℕ). open_at s (key_of c n)) (same_some (sym (ap enters f) ∙ e)) ∙ is))
+      there k e (Some o) is = inside_moves (bucket s (key_of c k)) o is
+
+      go : (o : Option ℕ) → enters (core_act c.core) ≡ o → (u : ℕ) × (can_move s u ≡ true)
+      go None e = moves (λ j f. absurd (none-some j (sym e ∙ ap enters f)))
+      go (Some k) e = there k e (open_at s (key_of c k)) refl
 
   -- WHO IS UP AT A LOCK WHERE A THREAD SLEEPS
 
@@ -391,16 +411,16 @@ module _ (s : State) (h : FitsTogether s) where
 
   -- one whose moment has passed can come back, or the one inside a section can move
   late_sleeps : (v : ℕ) (d : Call) → call_at s v ≡ Some d → comes_late d.core ≡ true → Moves
-  late_sleeps v d there e = go s.lot.section refl
+  late_sleeps v d there e = go (open_at s (late_key d)) refl
     where
-      go : (o : Option Section) → s.lot.section ≡ o → Moves
+      go : (o : Option Section) → open_at s (late_key d) ≡ o → Moves
       go None is = (
         v,
         ap (can_move_in s) there ∙ comes_on (is_back d.core) (comes_late d.core)
             (not (is_taken s d (bit (is_pending d.core)))) (is_possible (is_taken s d) (core_act d.core)) e
             (ap (λ o. not (is_some o)) is),
       )
-      go (Some o) is = inside_moves o is
+      go (Some o) is = inside_moves (bucket s (late_key d)) o is
 
   -- and one that is back takes itself out
   back_moves : (v : ℕ) (d : Call) → call_at s v ≡ Some d → is_back d.core ≡ true → Moves

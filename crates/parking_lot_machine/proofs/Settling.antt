@@ -14,7 +14,7 @@ use Rattle.parking_lot_machine_calls.specs.declared.seat.QueuePosition.{QueuePos
 use Rattle.parking_lot_machine_calls.specs.declared.open_call.Call.{Call}
 use Rattle.parking_lot_machine_calls.specs.declared.seat.Wakeup.{Wakeup}
 use Rattle.parking_lot_machine.specs.Rows.{State, word_at, call_at, taken_by}
-use Rattle.parking_lot_machine.specs.RowActs.{with_call, with_lot, with_word, settles}
+use Rattle.parking_lot_machine.specs.RowActs.{key_in, with_call, with_lot, with_word, settles}
 use Rattle.parking_lot_machine_calls.specs.CallActs.{hears, settled_spot, settled, told_of}
 use Rattle.parking_lot_machine.specs.RowFits.{FitsTogether, RulesFit, WakesFit, IsTaken, is_away, is_off}
 use Rattle.parking_lot_machine.proofs.Acting.{word-elsewhere}
@@ -72,7 +72,7 @@ module _ (s : State) (t : ℕ) (c : Call) (heard : ActResult) (token : UnparkTok
   next_call = hears c heard
 
   abbrev pub told_state : State
-  told_state = with_word (with_lot (settles (with_call s t next_call) t (told_of token)) (stored s.lot token)) c.lock
+  told_state = with_word (with_lot (settles (with_call s t next_call) t (told_of token)) (stored s.lot (key_in c) token)) c.lock
       word
 
   module _ (h : FitsTogether s) (here : call_at s t ≡ Some c) where
@@ -176,5 +176,5 @@ module _ (s : State) (t : ℕ) (c : Call) (heard : ActResult) (token : UnparkTok
       few = h.rules.few;
       elsewhere = told_elsewhere.words;
       bits = fit.3;
-      sound = move_sound s told_state c.core c.others (taken_by s.wakes t) heard c.lock t fit.0 h.rules.sound;
+      sound = move_sound s told_state c.core c.others (taken_by s.wakes t) heard c.lock t refl fit.0 h.rules.sound;
     })

@@ -21,7 +21,7 @@ use Rattle.parking_lot_machine_calls.specs.declared.seat.Core.{Core}
 use Rattle.parking_lot_machine_calls.specs.declared.open_call.Call.{Call}
 use Rattle.parking_lot_machine_calls.specs.declared.seat.QueuePosition.{QueuePosition}
 use Rattle.parking_lot_machine.specs.Rows.{State, word_at, call_at, hold_at, taken_by, mutex_at, rw_role_at, rw_lock_at}
-use Rattle.parking_lot_machine.specs.Rows.{queue_at, inside}
+use Rattle.parking_lot_machine.specs.Rows.{open_at, queue_at}
 use Rattle.parking_lot_machine_calls.specs.CallRoles.{first_of_all, owned_of, owns_mutex, mutex_spot, mutex_role}
 use Rattle.parking_lot_machine_calls.specs.Stances.{Takes, has_begun, mutex_begun, late_act, core_act, core_next}
 use Rattle.parking_lot_machine_calls.specs.Stances.{Stance, Out, In, Asleep, stance, taken_count}
@@ -53,7 +53,7 @@ use Rattle.parking_lot_machine.proofs.KindTable.{within_kinds, Kind, of_rws, of_
 use Rattle.parking_lot_machine.proofs.KindTable.{one_changed, role_at, role_now, role_stays, roles_at, same, shown}
 use Rattle.parking_lot_machine.proofs.KindTable.{Tardy}
 use Rattle.parking_lot_rules.proofs.Everybody.{get-all, was-all, length-all}
-use Rattle.parking_lot_machine.proofs.Making.{Crossed, TellsOf, quiet, move_sound, rw_goes, mutex_goes, RwLeadsBy}
+use Rattle.parking_lot_machine.proofs.Making.{Crossed, Entries, TellsOf, entries, quiet, move_sound, rw_goes, mutex_goes, RwLeadsBy}
 use Rattle.parking_lot_machine.proofs.Making.{last_sound}
 use Rattle.parking_lot_machine.proofs.Owning.{rw_leads, set-same}
 use Rattle.parking_lot_protocol.specs.declared.mutex_phase.MutexPhase.{MutexPhase}
@@ -169,7 +169,7 @@ module _ (s : State) (t : ℕ) (c : Call) (may : MayBegin s t c) (h : FitsTogeth
       (rw_call k) → manner_of (slice_get s.kinds c.lock) ≡ Some AsRw → Fitted s next t c seen.Start (rw_call k)
   begin_rws k e owns kind_is =
       let l = rw_lock_at s c.lock in
-      let z = call_starts (recursive_in s.kinds c.lock) l t c.others c.spot us k x (hold_at s t c.lock) (inside s) owns in
+      let z = call_starts (recursive_in s.kinds c.lock) l t c.others c.spot us k x (hold_at s t c.lock) (entries s c.lock) owns in
       let met : CallMeets (recursive_in s.kinds c.lock) l t c.others c.spot us k x = record {
         sound = rw_sound s h c.lock kind_is;
         word = refl;
@@ -178,7 +178,7 @@ module _ (s : State) (t : ℕ) (c : Call) (may : MayBegin s t c) (h : FitsTogeth
         threads = omega (arith, length-all (rw_role_at s c.lock) 0 (length s.calls), h.rules.small);
         few = λ y q at. subst (λ (z : Role). shared_holds z.owns ≤ 256) (sym (was-all (rw_role_at s c.lock) (length s.calls) y q at)) (role_few s h c.lock y (call_at s y) refl);
       } in
-      let leads = rw_leads (recursive_in s.kinds c.lock) l t c.others c.spot us k x seen.Start met z.told z.finds (λ key token z. may.listed) (inside s) (inside next) z.own in
+      let leads = rw_leads (recursive_in s.kinds c.lock) l t c.others c.spot us k x seen.Start met z.told z.finds (λ key token z. may.listed) (entries s c.lock) (entries next c.lock) z.own in
       let well = call_started (recursive_in s.kinds c.lock) l t c.others c.spot us k x (hold_at s t c.lock) c.lock s.lot.queues owns met z.told in
       let same_next = sym (next_is k seen.Start) in (
         as_move k c.others us seen.Start c.lock t s next
@@ -186,7 +186,7 @@ module _ (s : State) (t : ℕ) (c : Call) (may : MayBegin s t c) (h : FitsTogeth
             (begun_after of_rws (rw_next k seen.Start)
             (ap (λ (y : Core). core_next y seen.Start) e ∙ next_is k seen.Start)
             ∙ same of_rws _ _ _ _ _ _ _ _ (ap (λ y. word_after (core_act y) seen.Start x) e) refl refl refl) leads.1
-            (own_some (call_move c.others us k seen.Start) us t (inside s) (inside next) z.own)),
+            (own_some (call_move c.others us k seen.Start) us t (entries s c.lock) (entries next c.lock) z.own)),
         subst (IsPrepared (recursive_in s.kinds c.lock) c.others) same_next well.0,
         subst (λ (y : Core). KnowsList y s.lot.queues c.lock) same_next well.1,
         h.rules.bits c.lock,
@@ -209,7 +209,7 @@ module _ (s : State) (t : ℕ) (c : Call) (may : MayBegin s t c) (h : FitsTogeth
             (ap (λ (y : Core). core_next y seen.Start) e) ∙ same of_mutexes _ _ _ _ _ _ [] []
             (ap (λ y. word_after (core_act y) seen.Start x) e)
             (ap (slice_set (mutex_at s c.lock).roles t) (starts_as us k.phase owns.0)) refl refl)
-            (subst (λ (y : Crossing). Crossed y t (inside s) (inside next)) (sym (step.crossing ∙ well.1)) refl) well.0,
+            (subst (λ (y : Crossing). Crossed y t (entries s c.lock) (entries next c.lock)) (sym (step.crossing ∙ well.1)) (tt, λ b. refl)) well.0,
         owns.1,
         well.2,
         h.rules.bits c.lock,
@@ -246,8 +246,11 @@ module _ (s : State) (t : ℕ) (c : Call) (may : MayBegin s t c) (h : FitsTogeth
       record {
         fits = record {
           lots = begun_fits s t c h.lots may.low may.free (calls_begin c.core).0 (calls_begin c.core).1;
-          passes = λ v d k o at is there. calls_begun (λ (n : ℕ) (y : Call). stance y.core ≡ In k Takes → ArePassed (asks (core_act y.core)) (s.lot.queues (2 * y.lock + k)) (passed_of o.phase))
-              (λ n y at_n takes. h.passes n y k o at_n takes there) (λ takes. absurd (out_takes (sym (calls_begin c.core).0 ∙ takes))) v d at is;
+          passes = λ v d k o at is there. calls_begun
+              (λ (n : ℕ) (y : Call). stance y.core ≡ In k Takes → open_at s (2 * y.lock + k) ≡ Some o
+              → ArePassed (asks (core_act y.core)) (s.lot.queues (2 * y.lock + k)) (passed_of o.phase))
+              (λ n y at_n takes its. h.passes n y k o at_n takes its)
+              (λ takes its. absurd (out_takes (sym (calls_begin c.core).0 ∙ takes))) v d at is there;
           wakes = wakes_begun;
           rules = rules_after s next c.lock h.rules (record {
             kinds = refl;
@@ -259,7 +262,7 @@ module _ (s : State) (t : ℕ) (c : Call) (may : MayBegin s t c) (h : FitsTogeth
             few = h.rules.few;
             elsewhere = λ i ne. refl;
             bits = fit.3;
-            sound = move_sound s next c.core c.others us seen.Start c.lock t fit.0 h.rules.sound;
+            sound = move_sound s next c.core c.others us seen.Start c.lock t refl fit.0 h.rules.sound;
           });
         };
         goes = fit.0;
@@ -444,11 +447,11 @@ module _ (s : State) (h : FitsTogether s) (t : ℕ) (c : Call) (here : call_at s
 
   -- THE LAST STEP
 
-  last_leads : (recursive : Bool) (m : of_rw.Move) (l : Lock) (x : ℕ) (old new : Role) (o : Option ℕ)
+  last_leads : (recursive : Bool) (m : of_rw.Move) (l : Lock) (x : ℕ) (old new : Role) (o : Entries)
       → l.word ≡ word_of x → slice_get l.roles t ≡ Some old → OwnMove m t o o → IsLastStep recursive m l t old x new
       → RwLeadsBy recursive m t l (with_role l x t new) × Crossed (move_crossing m) t o o
   last_leads recursive of_rw.Stays l x old new o word is moves step =
-      (ap (λ w. record { word = w; roles = slice_set l.roles t new; first = l.first; second = l.second }) (sym word) ∙ ap (λ rs. record l { roles = rs }) (ap (slice_set l.roles t) step ∙ set-same l.roles t old is), refl)
+      (ap (λ w. record { word = w; roles = slice_set l.roles t new; first = l.first; second = l.second }) (sym word) ∙ ap (λ rs. record l { roles = rs }) (ap (slice_set l.roles t) step ∙ set-same l.roles t old is), moves)
   last_leads recursive (of_rw.Makes k) l x old new o word is moves step = (step, moves)
   last_leads recursive (of_rw.Joins k) l x old new o word is moves step = absurd moves
   last_leads recursive (of_rw.TakesOne k) l x old new o word is moves step = absurd moves
@@ -471,7 +474,7 @@ module _ (s : State) (h : FitsTogether s) (t : ℕ) (c : Call) (here : call_at s
       (record { owns = owns_mutex (hold_after c.others y); does = mutex.Idle })) e
       ∙ set-same (roles_at of_mutexes s c.lock) t mutex.away (plays_late s h t c LatePhase.GivesUp e here).here)
       refl refl)
-      refl
+      (λ b. refl)
   late_last LatePhase.Expires e asked = absurd cc
   late_last LatePhase.Quits e asked = absurd cc
   late_last LatePhase.Masks e asked = absurd cc
@@ -483,7 +486,7 @@ module _ (s : State) (h : FitsTogether s) (t : ℕ) (c : Call) (here : call_at s
     last_rw k e asked =
         let met = meets s h t c k e here in
         let kind_is = of_rws.of_kind (slice_get s.kinds c.lock) k (subst (IsOfKind (slice_get s.kinds c.lock)) e (h.rules.kinds t c here)) in
-        let leads = last_leads (recursive_in s.kinds c.lock) (call_last c.others k) (rw_lock_at s c.lock) (word_at s c.lock) _ _ (inside s) refl met.here (call_last_own t c.others k (inside s))
+        let leads = last_leads (recursive_in s.kinds c.lock) (call_last c.others k) (rw_lock_at s c.lock) (word_at s c.lock) _ _ (entries s c.lock) refl met.here (call_last_own t c.others k (entries s c.lock))
         (call_ends (recursive_in s.kinds c.lock) (rw_lock_at s c.lock) t c.others c.spot (taken_by s.wakes t) k
         (word_at s c.lock) answer met (subst (λ (x : Core). has_begun x ≡ true) e (h.rules.begun t c here).begun)
         asked) in
@@ -491,7 +494,7 @@ module _ (s : State) (h : FitsTogether s) (t : ℕ) (c : Call) (here : call_at s
         (ended of_rws ∙ ap
         (λ (y : Core). with_role (rw_lock_at s c.lock) (word_at s c.lock) t
         (record { owns = owned_of (hold_after c.others y); does = Idle })) e) leads.1
-        (own_some (call_last c.others k) [] t (inside s) (inside s) (call_last_own t c.others k (inside s)))
+        (own_some (call_last c.others k) [] t (entries s c.lock) (entries s c.lock) (call_last_own t c.others k (entries s c.lock)))
 
     last_of : (x : Core) → c.core ≡ x → core_act x ≡ Act.Done answer → IsLastOf x c.others c.lock t s u
     last_of (Core.Rw k) e asked = last_rw (Simple k) e asked
@@ -508,7 +511,7 @@ module _ (s : State) (h : FitsTogether s) (t : ℕ) (c : Call) (here : call_at s
         ∙ ap (λ (b : Bool). mutex_of (word_at s c.lock)
         (slice_set (mutex_at s c.lock).roles t (record { owns = b; does = mutex.Idle })) (mutex_at s c.lock).queue)
         (ap (λ (y : Core). owns_mutex (hold_after c.others y)) e ∙ shown_as.ends k.phase answer begun asked))
-        (subst (λ (x : Crossing). Crossed x t (inside s) (inside u)) (sym step.1) refl) (last_tells v [] k.phase)
+        (subst (λ (x : Crossing). Crossed x t (entries s c.lock) (entries u c.lock)) (sym step.1) (tt, λ b. refl)) (last_tells v [] k.phase)
     last_of (Core.Late p) e asked = late_last p e asked
 
   -- WHAT STAYS
@@ -562,9 +565,9 @@ module _ (s : State) (h : FitsTogether s) (t : ℕ) (c : Call) (here : call_at s
           fits = record {
             lots = same_parts (record s { calls = slice_set s.calls t None }) u refl refl refl (ended_fits s t c h.lots here out.0 out.1);
             passes = λ v d k o at is there. calls_ended
-                (λ (n : ℕ) (y : Call). stance y.core ≡ In k Takes → ArePassed (asks (core_act y.core))
-                (s.lot.queues (2 * y.lock + k)) (passed_of o.phase))
-                (λ n y at_n takes. h.passes n y k o at_n takes there) v d at is;
+                (λ (n : ℕ) (y : Call). stance y.core ≡ In k Takes → open_at s (2 * y.lock + k) ≡ Some o
+                → ArePassed (asks (core_act y.core)) (s.lot.queues (2 * y.lock + k)) (passed_of o.phase))
+                (λ n y at_n takes its. h.passes n y k o at_n takes its) v d at is there;
             wakes = wakes_ended;
             rules = rules_after s u c.lock h.rules (record {
               kinds = refl;
@@ -575,7 +578,7 @@ module _ (s : State) (h : FitsTogether s) (t : ℕ) (c : Call) (here : call_at s
               few = few_now;
               elsewhere = λ i ne. refl;
               bits = h.rules.bits c.lock;
-              sound = last_sound s u c.core c.others c.lock t moved h.rules.sound;
+              sound = last_sound s u c.core c.others c.lock t refl moved h.rules.sound;
             });
           };
           goes = moved;

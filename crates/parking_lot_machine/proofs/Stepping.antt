@@ -11,10 +11,10 @@ use Rattle.parking_lot_protocol.specs.declared.act.SectionAct.TheVariants as sec
 use Rattle.parking_lot_protocol.specs.declared.act.CoreAnswer.{CoreAnswer}
 use Rattle.parking_lot_protocol.specs.declared.act.WordChange.{WordChange}
 use Rattle.parking_lot_machine_calls.specs.declared.open_call.Call.{Call}
-use Rattle.parking_lot_machine.specs.Rows.{State, call_at}
+use Rattle.parking_lot_machine.specs.Rows.{State, call_at, open_at}
 use Rattle.parking_lot_machine_calls.specs.Stances.{Takes, sign, late_act, late_rw_act, core_act, core_next, core_tells}
 use Rattle.parking_lot_machine.specs.RowActs.{added, appended, answered, checked, entered, exchanged, left, loaded}
-use Rattle.parking_lot_machine.specs.RowActs.{masked, spun, told_all, took, took_nobody, woke, woke_nobody}
+use Rattle.parking_lot_machine.specs.RowActs.{key_in, masked, spun, told_all, took, took_nobody, woke, woke_nobody}
 use Rattle.parking_lot_machine_calls.specs.CallActs.{key_of}
 use Rattle.parking_lot_machine_calls.specs.Calls.{is_timed}
 use Rattle.parking_lot_machine.specs.RowFits.{FitsTogether}
@@ -26,10 +26,11 @@ use Rattle.parking_lot_protocol.specs.declared.act.ActResult.TheVariants as seen
 use Rattle.parking_lot_machine.specs.Ranks.{Pays}
 use Rattle.parking_lot_machine_calls.proofs.Stancing.{small_key}
 use Rattle.parking_lot_machine.proofs.LotKept.{acts_keep_fits}
-use Rattle.parking_lot_machine.proofs.LotSound.{appended_sound, left_sound, stored_sound, took_sound, took_nobody_sound}
+use Rattle.parking_lot_machine.proofs.LotSound.{appended_sound, stored_sound, took_sound, took_nobody_sound}
 use Rattle.parking_lot_machine.proofs.LotSound.{woke_sound}
 use Rattle.parking_lot_core_model.specs.Sound as lot
-use Rattle.parking_lot_core_model.proofs.Sequences.{sound_returned}
+use Rattle.parking_lot_core_model.proofs.Sounds.{sound_returned}
+use Rattle.parking_lot_machine.proofs.LateCalls.{returns_there}
 use Rattle.parking_lot_machine.specs.LateActs.{quitted, returned, came_back, found}
 use Rattle.parking_lot_machine_calls.specs.LateCalls.{comes_late, is_back, is_pending, late_key, sleeps_in_time}
 use Rattle.parking_lot_machine_calls.specs.declared.late_rw.LateRwPhase.{LateRwPhase}
@@ -100,10 +101,11 @@ module _ (s u : State) (t : ℕ) (c : Call) (fair : Bool) (h : FitsTogether s) (
 
   pub mask : (keep : ℕ) → core_act c.core ≡ Act.FetchAnd keep → u ≡ masked s t c keep → IsStepped t fair None s u
   mask keep asked e = plain (Act.FetchAnd keep) asked refl e (masked s t c keep) e
-      (tells.laws.mask s t c keep asked (stored_sound s t c h.lots here (sign false)))
+      (tells.laws.mask s t c keep asked (stored_sound s t c h.lots here (key_in c) (sign false)))
       (pays.mask s t c h here keep asked)
 
-  pub enter : (key : ℕ) → core_act c.core ≡ Act.Enter key → s.lot.section ≡ None → u ≡ entered s t c key
+  pub enter : (key : ℕ) → core_act c.core ≡ Act.Enter key → open_at s (key_of c key) ≡ None
+      → u ≡ entered s t c key
       → IsStepped t fair None s u
   enter key asked free e = plain (Act.Enter key) asked refl e (entered s t c key) e
       (laws.enter s t c key asked free (acts_keep_fits.enters s t c key free h.lots here asked).sound)
@@ -115,7 +117,7 @@ module _ (s u : State) (t : ℕ) (c : Call) (fair : Bool) (h : FitsTogether s) (
 
   pub leave : core_act c.core ≡ Act.Section section.Leave → u ≡ left s t c → IsStepped t fair None s u
   leave asked e = plain (Act.Section section.Leave) asked refl e (left s t c) e
-      (laws.leave s t c asked (left_sound s t c h.lots here)) (pays.leave s t c h here asked)
+      (laws.leave s t c asked (acts_keep_fits.leaves s t c h.lots here asked).sound) (pays.leave s t c h here asked)
 
   pub append : (token : ParkToken) → core_act c.core ≡ Act.Section (section.Append token) → IsJoined t c token s u
       → IsStepped t fair None s u
@@ -133,7 +135,7 @@ module _ (s u : State) (t : ℕ) (c : Call) (fair : Bool) (h : FitsTogether s) (
         (took_sound s t c h.lots here x.0 y.0 y.1 (small_key c.core x.0 Takes x.1) x.1 y.2.there))
         (pays.take s t c h here x.0 y.0 y.1 a asked taking x.1 y.2.there)
     | inr y ↦ plain a asked quiet became (took_nobody s t c (key_of c x.0)) y.1
-        (takes.laws.take_nobody s t c x.0 x.1 y.0 (took_nobody_sound s t c h.lots here))
+        (takes.laws.take_nobody s t c x.0 x.1 y.0 (took_nobody_sound s t c h.lots here x.0))
         (pays.take_nobody s t c h here x.0 a asked taking x.1)
   ]
 
@@ -150,7 +152,7 @@ module _ (s u : State) (t : ℕ) (c : Call) (fair : Bool) (h : FitsTogether s) (
       plain (Act.Section (section.Store straight handing)) asked refl e
       (told_all s t c (if fair then handing else straight) fair) e
       (tells.laws.store s t c straight handing fair asked
-      (stored_sound s t c h.lots here (core_tells (core_next c.core (seen.Stored fair)))))
+      (stored_sound s t c h.lots here (key_in c) (core_tells (core_next c.core (seen.Stored fair)))))
       (pays.store s t c h here straight handing fair asked)
 
   pub wake : core_act c.core ≡ Act.Section section.Wake → IsWoken t c s u → IsStepped t fair None s u
@@ -159,23 +161,25 @@ module _ (s u : State) (t : ℕ) (c : Call) (fair : Bool) (h : FitsTogether s) (
         | inl y ↦
             plain (Act.Section section.Wake) asked refl (inl y) (woke s t c (y.0).thread y.1 y.2) y.4
             (tells.laws.wake s t c y.0 y.1 y.2 asked y.3
-            (woke_sound s h.lots (y.0).thread (Taken y.2 y.3.sleep false) y.3.place (λ k. refl)))
+            (woke_sound s h.lots (y.0).thread (Taken y.2 y.3.key y.3.sleep false) y.3.place (λ k. refl)))
             (wakes_pay s t c (y.0).thread y.1 y.2 h here y.3.there asked)
         | inr y ↦ plain (Act.Section section.Wake) asked refl (inr y) (woke_nobody s t c) y.1
             (tells.laws.nobody s t c asked y.0) (nobody_pays s t c h here asked)
       ]
 
   -- whose moment has passed
-  pub come_back : comes_late c.core ≡ true → c.spot ≡ QueuePosition.Listed → s.lot.section ≡ None → u ≡ returned s t c
+  pub come_back : comes_late c.core ≡ true → c.spot ≡ QueuePosition.Listed → open_at s (late_key c) ≡ None
+      → u ≡ returned s t c
       → IsStepped t fair None s u
   come_back late listed free e =
       plain Act.Sleep (comes_act c.core late) refl
       (comes_became t c s u c.core late (e ∙ ap (λ at. came_back at s t c) (sym listed))) (returned s t c) e
-      (late_laws.returns s t c late listed free (sound_returned s.lot t (late_key c) h.lots.sound))
+      (late_laws.returns s t c late listed free (sound_returned s.lot t (late_key c) h.lots.sound free
+      (returns_there s h t c here late listed)))
       (late_laws.returns_pay s t c late here)
 
   pub find : (by : ℕ) (said : WakeResult) → comes_late c.core ≡ true → c.spot ≡ QueuePosition.Off by said
-      → s.lot.section ≡ None → lot.Sound (found s t c by said).lot → u ≡ found s t c by said → IsStepped t fair None s u
+      → open_at s (late_key c) ≡ None → lot.Sound (found s t c by said).lot → u ≡ found s t c by said → IsStepped t fair None s u
   find by said late off free sound e =
       plain Act.Sleep (comes_act c.core late) refl
       (comes_became t c s u c.core late (e ∙ ap (λ at. came_back at s t c) (sym off))) (found s t c by said) e
@@ -232,13 +236,13 @@ other_true : (a b : Bool) → a ≡ false → (a || b) ≡ true → b ≡ true
 other_true false b f e = e
 other_true true b f e = absurd cc
 
--- one that comes back finds nobody in a section
+-- one that comes back finds nobody in a section of its bucket
 pub comes_so : (s : State) (c : Call) → is_back c.core ≡ false → goes_late s c c.core ≡ true
-    → (comes_late c.core ≡ true) × (s.lot.section ≡ None)
+    → (comes_late c.core ≡ true) × (open_at s (late_key c) ≡ None)
 comes_so s c e goes =
     let free = not (is_taken s c (bit (is_pending c.core))) in
     let x = both_true (comes_late c.core) free (other_true (is_back c.core) _ e goes) in
-    (x.0, none_open s.lot.section x.1)
+    (x.0, none_open (open_at s (late_key c)) x.1)
 
 -- one that sleeps and can move is late
 pub can_late : (s : State) (t : ℕ) (c : Call) → can_move s t ≡ true → call_at s t ≡ Some c → core_act c.core ≡ Act.Sleep
@@ -257,8 +261,8 @@ expires_so c e = (both_true (is_timed c.asked) (sleeps_in_time c.core) e).1
 
 -- one that may enter a section finds none open
 pub can_enter : (s : State) (t : ℕ) (c : Call) (key : ℕ) → can_move s t ≡ true → call_at s t ≡ Some c
-    → core_act c.core ≡ Act.Enter key → s.lot.section ≡ None
+    → core_act c.core ≡ Act.Enter key → open_at s (key_of c key) ≡ None
 can_enter s t c key can here asked =
-    none_open s.lot.section
+    none_open (open_at s (key_of c key))
     (ap (is_possible (is_taken s c)) (sym asked) ∙ ap (λ b. b || is_possible (is_taken s c) (core_act c.core))
     (sym (not_late s c c.core key asked)) ∙ ap (can_move_in s) (sym here) ∙ can)

@@ -1,5 +1,6 @@
 -- A thread that takes one of a list: the machine stays fit, and it is a step of the rules.
-use Rattle.std.proofs.Common.{◌≡◌, ◌≢◌, ℕ, Bool, false, inl, inr, remove, Some, refl, sym, ap, ◌∙◌, subst}
+use Rattle.parking_lot_core_model.proofs.Kept.{updated_other}
+use Rattle.std.proofs.Common.{◌≡◌, ◌≢◌, ℕ, ◌+◌, ◌*◌, Bool, false, inl, inr, remove, Some, refl, sym, ap, ◌∙◌, subst}
 use Rattle.std.proofs.lemmas.Bool.{cases_eq}
 use Rattle.parking_lot_core_model.specs.declared.parking.ParkToken.{ParkToken}
 use Rattle.parking_lot_core_model.specs.declared.place.Waiter.{Waiter}
@@ -24,7 +25,7 @@ use Rattle.parking_lot_machine.proofs.Making.{move_sound}
 use Rattle.parking_lot_machine.proofs.Carrying.{same_call}
 use Rattle.parking_lot_machine.proofs.LotTakes.{took_fits}
 use Rattle.parking_lot_machine.proofs.Ruling.{CallFits, fits_at, fits_next, rules_after}
-use Rattle.parking_lot_machine.proofs.TakeParts.{IsOut, others_out, out_knows, took_told, TakesSo, the_sleeper}
+use Rattle.parking_lot_machine.proofs.TakeParts.{IsOut, beside, list_known, out_knows, took_told, TakesSo, the_sleeper}
 use Rattle.parking_lot_machine.proofs.TakeParts.{taker_after, sleeper_after, others_after, same_threads, wakes_after}
 use Rattle.parking_lot_machine.proofs.TakeNext.{mutex_asks, takes_so}
 use Rattle.parking_lot_machine.proofs.TakeJoins.{late_takes}
@@ -63,7 +64,10 @@ module _ (s : State) (t : ℕ) (c : Call) (k nth : ℕ) (w : Waiter) (from : sta
           (same_call (sym (sleeper_after s t c k nth w from next.there h here) ∙ (ap (call_at u) (sym e) ∙ is))) its
       | inr nv ↦ let old : call_at s x ≡ Some d = sym (others_after s t c k nth w from next.there h here x nt nv)
           ∙ is in fits_at s h x d old u.lot.queues d.spot
-          (out_knows d.core u.lot.queues d.lock (others_out s h.lots t c here k Takes from x d nt old))
+          (list_known d.core s.lot.queues u.lot.queues d.lock
+          (λ l what is'. updated_other s.lot.queues (key_of c k) (remove (s.lot.queues (key_of c k)) nth)
+          (2 * d.lock + l) (beside s h.lots t c here k Takes from x d nt old l what is'))
+          (h.rules.knows x d old))
     ]
   ]
     where
@@ -86,7 +90,7 @@ module _ (s : State) (t : ℕ) (c : Call) (k nth : ℕ) (w : Waiter) (from : sta
     few = h.rules.few;
     elsewhere = λ i ne. refl;
     bits = so.0.3;
-    sound = move_sound s u c.core c.others (taken_by s.wakes t) told c.lock t so.0.0 h.rules.sound;
+    sound = move_sound s u c.core c.others (taken_by s.wakes t) told c.lock t refl so.0.0 h.rules.sound;
   })
 
   lots : lot.Sound u.lot → LotFits u

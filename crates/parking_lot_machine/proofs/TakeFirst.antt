@@ -4,7 +4,6 @@ use Rattle.std.proofs.Common.{slice_get, refl, sym, ap, ◌∙◌, subst, arith}
 use Rattle.std.proofs.lemmas.Bool.{both_ways}
 use Rattle.parking_lot_core_model.specs.Machine.{threads_of}
 use Rattle.parking_lot_core_model.specs.Results.{is_left}
-use Rattle.parking_lot_core_model.specs.declared.place.Phase.TheVariants as phase
 use Rattle.parking_lot_core_model.specs.declared.place.Waiter.{Waiter}
 use Rattle.parking_lot_protocol.specs.MutexRules as of_mutex
 use Rattle.parking_lot_protocol.specs.MutexTable as of_mutex_table
@@ -15,7 +14,8 @@ use Rattle.parking_lot_protocol.specs.declared.rw_core.RwCore.{RwCore}
 use Rattle.parking_lot_protocol.specs.declared.rw_phase.AfterWake.{AfterWake}
 use Rattle.parking_lot_protocol.specs.declared.rw_phase.RwPhase.{RwPhase}
 use Rattle.parking_lot_rules.specs.Roles.{Shares, Taken2}
-use Rattle.parking_lot_machine.proofs.Acting.{still_inside}
+use Rattle.parking_lot_machine.proofs.Crossings.{Continues}
+use Rattle.parking_lot_machine.proofs.TakeParts.{took_on}
 use Rattle.parking_lot_machine.proofs.Carrying.{no_length}
 use Rattle.parking_lot_machine.proofs.KindTable.{IsThere, Plain, RwCall, Simple, of_mutexes, of_rws, rw_call, rw_next}
 use Rattle.parking_lot_machine.proofs.KindTable.{sleeps_so}
@@ -64,6 +64,9 @@ module _ (s : State) (t : ℕ) (c : Call) (k : ℕ) (w : Waiter) (from : stance 
   abbrev z : Call
   z = (the_sleeper s t c k 0 w from at h here).call
 
+  on : Continues s u t
+  on = took_on s t c k 0 w from at h here
+
   there : IsThere c.lock (call_at s t)
   there = subst (IsThere c.lock) (sym here) refl
 
@@ -96,7 +99,7 @@ module _ (s : State) (t : ℕ) (c : Call) (k : ℕ) (w : Waiter) (from : stance 
               (sleeps.off t WakeResult.Nothing) _ _
               (list_there s t c k 0 w from at h here (2 * c.lock) (λ f. omega (arith, one, f)))
               (list_here s t c k 0 w from at h here (2 * c.lock + 1) second))
-              (still_inside s.lot.section (phase.Taking 0)) tt,
+              (tt, on.entered) tt,
           well.0,
           well.1,
           h.rules.bits c.lock,
@@ -138,7 +141,7 @@ module _ (s : State) (t : ℕ) (c : Call) (k : ℕ) (w : Waiter) (from : stance 
               (ap (λ vs. of_mutex.role of_mutex.Listed (first_of_all (vs ++ v ∷ []))
               (MutexPhase.Stores giving true left)) nobody) _ (asleep.3 t WakeResult.Nothing ws) _ _
               (list_here s t c k 0 w from at h here (2 * c.lock) first) refl)
-              (still_inside s.lot.section (phase.Taking 0)) tt,
+              (tt, on.entered) tt,
           subst (IsPrepared (recursive_in s.kinds c.lock) c.others) e (h.rules.prepared t c here),
           (ap is_left (took_list s t c k 0 w from at h here (2 * c.lock) first), λ f. absurd (both_ways true f refl)),
           h.rules.bits c.lock,

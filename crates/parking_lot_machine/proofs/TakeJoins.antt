@@ -25,7 +25,7 @@ use Rattle.parking_lot_machine_calls.specs.declared.seat.QueuePosition.{QueuePos
 use Rattle.parking_lot_machine_calls.specs.declared.seat.LatePhase.{LatePhase}
 use Rattle.parking_lot_machine_calls.specs.declared.seat.Core.{Core}
 use Rattle.parking_lot_machine_calls.specs.declared.open_call.Call.{Call}
-use Rattle.parking_lot_machine.specs.Rows.{State, word_at, call_at, taken_by, rw_lock_at, mutex_at, inside}
+use Rattle.parking_lot_machine.specs.Rows.{State, word_at, call_at, taken_by, rw_lock_at, mutex_at}
 use Rattle.parking_lot_machine_calls.specs.CallRoles.{first_of_all, mutex_spot}
 use Rattle.parking_lot_machine_calls.specs.Stances.{Joins, In, late_stance, rw_stance, seeks_stance, upgrade_stance}
 use Rattle.parking_lot_machine_calls.specs.Stances.{mutex_stance, stance, core_act, core_next, Takes, Stores}
@@ -50,9 +50,10 @@ use Rattle.parking_lot_machine.proofs.Meeting.{meets, plays, rw_hears}
 use Rattle.parking_lot_machine.proofs.Owning.{OwnAct, own-there, own-elsewhere, own_after, rw_leads}
 use Rattle.parking_lot_machine.proofs.Ruling.{Fitted, rules_own}
 use Rattle.parking_lot_machine.proofs.WakesKept.{wakes_own}
-use Rattle.parking_lot_machine.proofs.Acting.{still_inside}
-use Rattle.parking_lot_machine.proofs.Passing.{inside_mine, own_passes}
-use Rattle.parking_lot_machine.proofs.TakeParts.{awake_listed, others_out, out_knows}
+use Rattle.parking_lot_machine.proofs.Crossings.{Continues, continues}
+use Rattle.parking_lot_machine.proofs.Making.{entries}
+use Rattle.parking_lot_machine.proofs.Passing.{own_passes}
+use Rattle.parking_lot_machine.proofs.TakeParts.{awake_listed, beside, list_known}
 use Rattle.parking_lot_core_model.specs.Results.{is_left}
 use Rattle.parking_lot_protocol.specs.RwTable.{sum_of}
 use Rattle.parking_lot_core_model.specs.declared.parking.FilterOp.TheVariants.{Unpark, Skip}
@@ -106,6 +107,13 @@ module _ (s : State) (t : ℕ) (c : Call) (k : ℕ) (token : ParkToken)
   other_key i l ne b = updated_other s.lot.queues (key_of c k) _ (2 * i + l)
       (ne_eqb (2 * i + l) (key_of c k) (λ e. ne (one_key i c.lock l k b leads.0 e).0))
 
+  -- its section goes on
+  on : Continues s u t
+  on = continues s u t c h.lots here k (Joins token) from (λ x. record x { phase = phase.Joined }) (λ x. refl)
+      (λ b. refl) refl
+      (λ l ne. updated_other s.lot.queues (key_of c k)
+      (s.lot.queues (key_of c k) ++ record { thread = t; token = token } ∷ []) l ne)
+
   own : OwnAct s u t c ActResult.Made (core_next c.core ActResult.Made) QueuePosition.Listed
   own = record {
     here = here;
@@ -117,6 +125,7 @@ module _ (s : State) (t : ℕ) (c : Call) (k : ℕ) (token : ParkToken)
     word = sym (ap (λ (x : Act). word_after x ActResult.Made (word_at s c.lock)) asked);
     words = λ i ne. refl;
     queues = other_key;
+    buckets = refl;
     listed = λ l park e. refl;
   }
 
@@ -143,7 +152,12 @@ module _ (s : State) (t : ℕ) (c : Call) (k : ℕ) (token : ParkToken)
 
   -- what the other calls know
   others : (v : ℕ) (e : Call) → v ≢ t → call_at s v ≡ Some e → KnowsList e.core u.lot.queues e.lock
-  others v e ne at = out_knows e.core u.lot.queues e.lock (others_out s h.lots t c here k (Joins token) from v e ne at)
+  others v e ne at =
+      list_known e.core s.lot.queues u.lot.queues e.lock
+      (λ l what is. updated_other s.lot.queues (key_of c k)
+      (s.lot.queues (key_of c k) ++ record { thread = t; token = token } ∷ []) (2 * e.lock + l)
+      (beside s h.lots t c here k (Joins token) from v e ne at l what is))
+      (h.rules.knows v e at)
 
   own_of : (x : Core) → c.core ≡ x → OwnAct s u t c ActResult.Made (core_next x ActResult.Made) QueuePosition.Listed
   own_of x e = subst (λ (y : Core). OwnAct s u t c ActResult.Made (core_next y ActResult.Made) QueuePosition.Listed) e
@@ -171,12 +185,12 @@ module _ (s : State) (t : ℕ) (c : Call) (k : ℕ) (token : ParkToken)
             rw_goes s u t c.lock (of_rw.Joins z.list) owed _ (own-there s u t c ActResult.Made _ QueuePosition.Listed a)
             (own-elsewhere s u t c ActResult.Made _ QueuePosition.Listed a) kind_is x.1
             (after ∙ same of_rws _ _ _ _ _ _ _ _ refl refl (list_here (2 * c.lock) (omega (arith, x.0)))
-            (list_there (2 * c.lock + 1) (λ f. omega (arith, x.0, f)))) (still_inside s.lot.section phase.Joined) tt
+            (list_there (2 * c.lock + 1) (λ f. omega (arith, x.0, f)))) (tt, on.entered) tt
         | inr x ↦
             rw_goes s u t c.lock (of_rw.Joins z.list) owed _ (own-there s u t c ActResult.Made _ QueuePosition.Listed a)
             (own-elsewhere s u t c ActResult.Made _ QueuePosition.Listed a) kind_is x.1
             (after ∙ same of_rws _ _ _ _ _ _ _ _ refl refl (list_there (2 * c.lock) (λ f. omega (arith, x.0, f)))
-            (list_here (2 * c.lock + 1) (omega (arith, x.0)))) (still_inside s.lot.section phase.Joined) tt
+            (list_here (2 * c.lock + 1) (omega (arith, x.0)))) (tt, on.entered) tt
       ] in (
         as_move y c.others owed ActResult.Made c.lock t s u
             (subst (λ m. IsRwMove m owed c.lock t s u) (sym z.move) goes),
@@ -203,7 +217,7 @@ module _ (s : State) (t : ℕ) (c : Call) (k : ℕ) (token : ParkToken)
             (Plain (record z { phase = of_mutex_table.next_phase MutexPhase.Appends ActResult.Made }))
             QueuePosition.Listed a (word_at s c.lock) refl ∙ same of_mutexes _ _ _ _ _ _ [] [] refl refl
             (list_here (2 * c.lock) (omega (arith, zero))) refl)
-            (still_inside s.lot.section phase.Joined) tt,
+            (tt, on.entered) tt,
         subst (IsPrepared (recursive_in s.kinds c.lock) c.others) e (h.rules.prepared t c here),
         tt,
         h.rules.bits c.lock,
@@ -226,8 +240,7 @@ module _ (s : State) (t : ℕ) (c : Call) (k : ℕ) (token : ParkToken)
             lots = leads.2;
             passes = own_passes s u t c ActResult.Made (core_next c.core ActResult.Made)
                 QueuePosition.Listed own leads.2 h.passes
-                (inr (inl (still_inside s.lot.section phase.Joined ∙ inside_mine s h.lots t c here k
-                (Joins token) from)))
+                on.around
                 (λ l o e. absurd (let f : In k (stances.Joined token) ≡ In l Takes = sym leads.1 ∙ e in cc));
             wakes = wakes;
             rules = both.0;
@@ -321,6 +334,10 @@ module _ (s : State) (t : ℕ) (c : Call) (k : ℕ) (from : stance c.core ≡ In
         (l.2.0 ∙ ap (λ (n : ℕ). In n Stores) same, l.2.1)
   ]
 
+  finds_on : Continues s found_state t
+  finds_on = continues s found_state t c h.lots here k Takes from (λ x. record x { phase = phase.Ended }) (λ x. refl)
+      (λ b. refl) refl (λ l ne. refl)
+
   own_find : OwnAct s found_state t c finds_none (NextOf c.core) c.spot
   own_find = record {
     here = here;
@@ -332,6 +349,7 @@ module _ (s : State) (t : ℕ) (c : Call) (k : ℕ) (from : stance c.core ≡ In
     word = sym (takes_no_word (core_act c.core) finds_none (word_at s c.lock) (asks_to_take c.core k from));
     words = λ i ne. refl;
     queues = λ i l ne b. refl;
+    buckets = refl;
     listed = λ l park e. absurd
         (up_sleeps l park (stance (NextOf c.core)) (up_by (stance (NextOf c.core)) (In k Stores) leads_on.0 tt) e);
   }
@@ -340,8 +358,7 @@ module _ (s : State) (t : ℕ) (c : Call) (k : ℕ) (from : stance c.core ≡ In
   find_of x e = subst (λ (y : Core). OwnAct s found_state t c finds_none (core_next y finds_none) c.spot) e own_find
 
   others_know : (v : ℕ) (e : Call) → v ≢ t → call_at s v ≡ Some e → KnowsList e.core found_state.lot.queues e.lock
-  others_know v e ne at = out_knows e.core found_state.lot.queues e.lock
-      (others_out s h.lots t c here k Takes from v e ne at)
+  others_know v e ne at = h.rules.knows v e at
 
   -- where whoever is first is taken nobody waits
   is_empty : ((token : ℕ) → asks (core_act c.core) token ≡ Unpark) → s.lot.queues (key_of c k) ≡ []
@@ -361,14 +378,14 @@ module _ (s : State) (t : ℕ) (c : Call) (k : ℕ) (from : stance c.core ≡ In
 
   stays_rw : (y : RwCall) → c.core ≡ rw_call y → CallTold y (word_at s c.lock) finds_none
       → Finds (core_act (rw_call y)) (rw_lock_at s c.lock) → OwnMove (call_move c.others owed_here y finds_none) t
-      (inside s) (inside found_state) → IsMoveOf (rw_call y) c.others owed_here finds_none c.lock t s found_state
+      (entries s c.lock) (entries found_state c.lock) → IsMoveOf (rw_call y) c.others owed_here finds_none c.lock t s found_state
   stays_rw y e heard finds moves =
       let a = subst (λ (x : Core). OwnAct s found_state t c finds_none x c.spot) (next_is y finds_none)
       (find_of (rw_call y) e) in
       let kind_is = of_rws.of_kind (slice_get s.kinds c.lock) y
       (subst (IsOfKind (slice_get s.kinds c.lock)) e (h.rules.kinds t c here)) in
       let leads_on = rw_leads (recursive_in s.kinds c.lock) (rw_lock_at s c.lock) t c.others c.spot owed_here y
-      (word_at s c.lock) finds_none (meets s h t c y e here) heard finds a.listed (inside s) (inside found_state)
+      (word_at s c.lock) finds_none (meets s h t c y e here) heard finds a.listed (entries s c.lock) (entries found_state c.lock)
       moves in
       as_move y c.others owed_here finds_none c.lock t s found_state
       (rw_goes s found_state t c.lock (call_move c.others owed_here y finds_none) owed_here _
@@ -376,13 +393,13 @@ module _ (s : State) (t : ℕ) (c : Call) (k : ℕ) (from : stance c.core ≡ In
       kind_is leads_on.0
       (own_after of_rws s found_state t c finds_none (rw_next y finds_none) c.spot a _
       (a.word ∙ ap (λ y. word_after (core_act y) finds_none (word_at s c.lock)) e)) leads_on.1
-      (own_some (call_move c.others owed_here y finds_none) owed_here t (inside s) (inside found_state) moves))
+      (own_some (call_move c.others owed_here y finds_none) owed_here t (entries s c.lock) (entries found_state c.lock) moves))
 
   -- the pending writer's list is empty
   finds_writer : (rest : AfterWake) → c.core ≡ Core.Rw (record { phase = RwPhase.TakeWriter rest }) → 1 ≡ k
       → Fitted s found_state t c finds_none (Core.Rw (record { phase = RwPhase.TakeWriter rest }))
   finds_writer rest e one = (
-    stays_rw (Simple (record { phase = RwPhase.TakeWriter rest })) e tt tt (still_inside s.lot.section phase.Ended),
+    stays_rw (Simple (record { phase = RwPhase.TakeWriter rest })) e tt tt (tt, finds_on.entered),
     subst (IsPrepared (recursive_in s.kinds c.lock) c.others) e (h.rules.prepared t c here),
     ap s.lot.queues (omega (arith, one)) ∙ is_empty (λ token. ap (λ (x : Core). asks (core_act x) token) e),
     h.rules.bits c.lock,
@@ -403,8 +420,8 @@ module _ (s : State) (t : ℕ) (c : Call) (k : ℕ) (from : stance c.core ≡ In
             (sc.passes left_over (s.lot.queues (2 * c.lock)) (s.lot.queues (2 * c.lock + 1))
             (ap (λ n. is_left (s.lot.queues n)) (sym key)) all) in (
               stays_rw y e told (subst (λ (a : Act). Finds a (rw_lock_at s c.lock)) (sym sc.act.1) tt)
-                  (subst (λ m. OwnMove m t (inside s) (inside found_state)) (sym (sc.stays owed_here left_over))
-                  (still_inside s.lot.section phase.Ended)),
+                  (subst (λ m. OwnMove m t (entries s c.lock) (entries found_state c.lock)) (sym (sc.stays owed_here left_over))
+                  (tt, finds_on.entered)),
               well.0,
               well.1,
               h.rules.bits c.lock,
@@ -428,7 +445,7 @@ module _ (s : State) (t : ℕ) (c : Call) (k : ℕ) (from : stance c.core ≡ In
             (MutexPhase.Takes giving) left_over (plays s h t c z e here (λ w. cc)) refl).leads
             (own_after of_mutexes s found_state t c finds_none
             (Plain (record z { phase = of_mutex_table.next_phase (MutexPhase.Takes giving) finds_none })) c.spot a
-            (word_at s c.lock) refl) (still_inside s.lot.section phase.Ended) tt,
+            (word_at s c.lock) refl) (tt, finds_on.entered) tt,
         subst (IsPrepared (recursive_in s.kinds c.lock) c.others) e (h.rules.prepared t c here),
         (
           ap (λ n. is_left (s.lot.queues n)) (omega (arith, zero)),
@@ -455,8 +472,7 @@ module _ (s : State) (t : ℕ) (c : Call) (k : ℕ) (from : stance c.core ≡ In
               record {
                 lots = lots;
                 passes = own_passes s found_state t c finds_none (NextOf c.core) c.spot own_find lots
-                    h.passes (inr (inl
-                    (still_inside s.lot.section phase.Ended ∙ inside_mine s h.lots t c here k Takes from)))
+                    h.passes finds_on.around
                     (λ l o e. absurd (let f : In k Stores ≡ In l Takes = sym leads_on.0 ∙ e in cc));
                 wakes = wakes_own s found_state t c finds_none (NextOf c.core) own_find h.wakes;
                 rules = both.0;

@@ -4,7 +4,6 @@ use Rattle.std.proofs.Common.{refl, sym, ap, ◌∙◌, subst, arith}
 use Rattle.parking_lot_core_model.specs.Results.{is_left}
 use Rattle.parking_lot_core_model.specs.declared.parking.FilterOp.{FilterOp}
 use Rattle.parking_lot_core_model.specs.declared.parking.FilterOp.TheVariants.{Unpark, Skip}
-use Rattle.parking_lot_core_model.specs.declared.place.Phase.TheVariants as phase
 use Rattle.parking_lot_core_model.specs.declared.place.Waiter.{Waiter}
 use Rattle.parking_lot_protocol.specs.MutexTable as of_mutex_table
 use Rattle.parking_lot_protocol.specs.RwRules as of_rw
@@ -15,7 +14,8 @@ use Rattle.parking_lot_protocol.specs.Acts.{Gives}
 use Rattle.parking_lot_machine_calls.specs.declared.seat.WakeResult.{WakeResult}
 use Rattle.parking_lot_protocol.specs.declared.rw_phase.RwPhase.{RwPhase}
 use Rattle.parking_lot_rules.specs.Roles.{Shares, Open, Taken1}
-use Rattle.parking_lot_machine.proofs.Acting.{still_inside}
+use Rattle.parking_lot_machine.proofs.Crossings.{Continues}
+use Rattle.parking_lot_machine.proofs.TakeParts.{took_on}
 use Rattle.parking_lot_machine.proofs.KindTable.{IsThere, RwCall, Simple, Upgradable, next_is, of_rws, rw_call, rw_next}
 use Rattle.parking_lot_machine.proofs.RwCalls.{as_move}
 use Rattle.parking_lot_machine.proofs.RwSleeps.{CallSleepsFirst}
@@ -85,6 +85,9 @@ module _ (s : State) (t : ℕ) (c : Call) (k nth : ℕ) (w : Waiter) (from : sta
   abbrev z : Call
   z = (the_sleeper s t c k nth w from at h here).call
 
+  on : Continues s u t
+  on = took_on s t c k nth w from at h here
+
   there : IsThere c.lock (call_at s t)
   there = subst (IsThere c.lock) (sym here) refl
 
@@ -129,7 +132,7 @@ module _ (s : State) (t : ℕ) (c : Call) (k nth : ℕ) (w : Waiter) (from : sta
               _ _
               (list_here s t c k nth w from at h here (2 * c.lock) first)
               (list_there s t c k nth w from at h here (2 * c.lock + 1) (λ f. omega (arith, nought, f))))
-              (still_inside s.lot.section (phase.Taking nth)) tt)),
+              (tt, on.entered) tt)),
           well.0,
           well.1,
           h.rules.bits c.lock,

@@ -10,6 +10,9 @@ use Rattle.std.specs.Prelude.{count_by, filter}
 use Rattle.std.specs.Option.{option_map, option_map_or}
 use Rattle.parking_lot_core_model.specs.declared.parking.ParkToken.{ParkToken}
 use Rattle.parking_lot_core_model.specs.declared.place.Waiter.{Waiter}
+use Rattle.parking_lot_core_model.specs.declared.place.Phase.TheVariants as phase
+use Rattle.parking_lot_core_model.specs.declared.place.Section.{Section}
+use Rattle.parking_lot_machine.specs.Rows.{open_at}
 use Rattle.parking_lot_protocol.specs.declared.mutex_phase.MutexPhase.{MutexPhase}
 use Rattle.parking_lot_protocol.specs.declared.rw_phase.RwPhase.{RwPhase}
 use Rattle.parking_lot_protocol_rw.specs.declared.upgrade_phase.Hold.{Hold}
@@ -27,7 +30,7 @@ use Rattle.parking_lot_machine.specs.RowFits.{FitsTogether, LotFits, KnowsList, 
 use Rattle.parking_lot_machine.specs.RowFits.{is_away, is_off}
 use Rattle.parking_lot_machine_calls.specs.CallKinds.{IsOfManner}
 use Rattle.parking_lot_machine.proofs.Carrying.{same_call, awake_sleeps}
-use Rattle.parking_lot_machine.proofs.LotActs.{outside_of, seat_of, awake_by}
+use Rattle.parking_lot_machine.proofs.LotActs.{same_number, same_section, seat_of, awake_by}
 use Rattle.parking_lot_core_model.specs.Machine.{threads_of}
 use Rattle.parking_lot_core_model.specs.Places.{place_at, mark_of}
 use Rattle.parking_lot_core_model.specs.Results.{is_left}
@@ -48,12 +51,19 @@ use Rattle.parking_lot_machine.proofs.KindTable.{roles_at, same, shown}
 use Rattle.parking_lot_machine.proofs.Ruling.{Fitted}
 use Rattle.parking_lot_machine.proofs.Meeting.{in_range}
 use Rattle.parking_lot_machine.proofs.Calling.{call_of, slot, call-elsewhere}
+use Rattle.parking_lot_machine.proofs.Crossings.{Continues, continues}
 use Rattle.parking_lot_machine.proofs.LotLists.{one_key}
 use Rattle.parking_lot_machine.proofs.LotTakes.{Sleeper, sleeper, call_taken, call_mine, call_other, took_length}
 
 -- it isn't in a section
 abbrev pub IsOut : Stance → Type 0
 IsOut a = (k : ℕ) (how : Doing) → a ≡ In k how → ⊥
+
+-- the first list, by its number
+at_first : (queues news : ℕ → List Waiter) (j : ℕ) → news (2 * j + 0) ≡ queues (2 * j + 0)
+    → news (2 * j) ≡ queues (2 * j)
+at_first queues news j h =
+    let same : 2 * j + 0 ≡ 2 * j = omega arith in subst (λ (n : ℕ). news n ≡ queues n) same h
 
 mutex_out : (p : MutexPhase) (queue : List Waiter) → IsOut (mutex_stance p) → mutex_knows p queue
 mutex_out (MutexPhase.Stores giving taken left) queue out = absurd (out 0 Stores refl)
@@ -80,13 +90,56 @@ out_knows (Core.Upgrade c) queues j out = upgrade_out c.phase (queues (2 * j)) o
 out_knows (Core.Mutex c) queues j out = mutex_out c.phase (queues (2 * j)) out
 out_knows (Core.Rw c) queues j out = rw_out c.phase (queues (2 * j)) (queues (2 * j + 1)) out
 
--- beside a thread that is in a section
-pub others_out : (s : State) → LotFits s → (t : ℕ) (c : Call) → call_at s t ≡ Some c → (k : ℕ) (how : Doing)
-    → stance c.core ≡ In k how → (v : ℕ) (e : Call) → v ≢ t → call_at s v ≡ Some e → IsOut (stance e.core)
-others_out s h t c here k how from v e ne at k' how' is =
+-- What a thread knows in a section of a list goes by that list alone.
+mutex_kept : (p : MutexPhase) (q q' : List Waiter) → ((how : Doing) → mutex_stance p ≡ In 0 how → q' ≡ q)
+    → mutex_knows p q → mutex_knows p q'
+mutex_kept (MutexPhase.Stores giving taken left) q q' same h =
+    subst (mutex_knows (MutexPhase.Stores giving taken left)) (sym (same Stores refl)) h
+mutex_kept p q q' same h = tt
+
+rw_kept : (p : RwPhase) (f g f' g' : List Waiter) → ((how : Doing) → rw_stance p ≡ In 0 how → f' ≡ f)
+    → ((how : Doing) → rw_stance p ≡ In 1 how → g' ≡ g) → rw_knows p f g → rw_knows p f' g'
+rw_kept (RwPhase.Stores a left) f g f' g' first second h =
+    subst (λ (q : List Waiter). rw_knows (RwPhase.Stores a left) q g) (sym (first Stores refl)) h
+rw_kept (RwPhase.ClearWriterParked rest taken) f g f' g' first second h =
+    subst (λ (q : List Waiter). rw_knows (RwPhase.ClearWriterParked rest taken) f q) (sym (second Stores refl)) h
+rw_kept p f g f' g' first second h = tt
+
+part_kept : (kept : Hold) (p : RwPhase) (q q' : List Waiter) → ((how : Doing) → rw_stance p ≡ In 0 how → q' ≡ q)
+    → scan_knows kept p q → scan_knows kept p q'
+part_kept kept (RwPhase.Stores a left) q q' same h =
+    subst (scan_knows kept (RwPhase.Stores a left)) (sym (same Stores refl)) h
+part_kept kept p q q' same h = tt
+
+upgrade_kept : (p : UpgradePhase) (q q' : List Waiter) → ((how : Doing) → upgrade_stance p ≡ In 0 how → q' ≡ q)
+    → upgrade_knows p q → upgrade_knows p q'
+upgrade_kept (UpgradePhase.Frees r core) q q' same h = part_kept Hold.Nothing core.phase q q' same h
+upgrade_kept (UpgradePhase.Owes kept end core) q q' same h = part_kept kept core.phase q q' same h
+upgrade_kept p q q' same h = tt
+
+pub list_known : (x : Core) (queues news : ℕ → List Waiter) (j : ℕ)
+    → ((k : ℕ) (how : Doing) → stance x ≡ In k how → news (2 * j + k) ≡ queues (2 * j + k)) → KnowsList x queues j
+    → KnowsList x news j
+list_known (Core.Late p) queues news j same h = tt
+list_known (Core.LateRw p) queues news j same h = tt
+list_known (Core.Upgrade c) queues news j same h =
+    upgrade_kept c.phase (queues (2 * j)) (news (2 * j)) (λ how e. at_first queues news j (same 0 how e)) h
+list_known (Core.Mutex c) queues news j same h =
+    mutex_kept c.phase (queues (2 * j)) (news (2 * j)) (λ how e. at_first queues news j (same 0 how e)) h
+list_known (Core.Rw c) queues news j same h =
+    rw_kept c.phase (queues (2 * j)) (queues (2 * j + 1)) (news (2 * j)) (news (2 * j + 1))
+    (λ how e. at_first queues news j (same 0 how e)) (λ how e. same 1 how e) h
+
+-- of the section that a thread is in no other is in the list
+pub beside : (s : State) → LotFits s → (t : ℕ) (c : Call) → call_at s t ≡ Some c → (k : ℕ) (how : Doing)
+    → stance c.core ≡ In k how → (v : ℕ) (e : Call) → v ≢ t → call_at s v ≡ Some e → (l : ℕ) (what : Doing)
+    → stance e.core ≡ In l what → (2 * e.lock + l == key_of c k) ≡ false
+beside s h t c here k how from v e ne at l what is =
     let mine = seat_of s h t c (In k how) here from in
-    let its = seat_of s h v e (In k' how') at is in
-    outside_of s.lot.section mine.0 t v (ne_eqb v t ne) mine.1 mine.2 its.0 its.1 its.2
+    let its = seat_of s h v e (In l what) at is in
+    ne_eqb (2 * e.lock + l) (key_of c k)
+    (λ same. ne (same_number (sym its.2 ∙ (ap (λ (x : Section). x.thread)
+    (same_section (sym its.1 ∙ (ap (open_at s) same ∙ mine.1))) ∙ mine.2))))
 
 -- only who sleeps is off its list
 pub awake_listed : (s : State) → FitsTogether s → (t : ℕ) (c : Call) → call_at s t ≡ Some c
@@ -169,6 +222,12 @@ module _ (s : State) (t : ℕ) (c : Call) (k nth : ℕ) (w : Waiter) (from : sta
   pub taker_listed : c.spot ≡ QueuePosition.Listed
   taker_listed = awake_listed s h t c here
       (λ l park e. awake_sleeps l park (stance c.core) (awake_by (stance c.core) (In k Takes) from tt) e)
+
+  -- its section goes on
+  pub took_on : Continues s u t
+  took_on = continues s u t c h.lots here k Takes from (λ x. record x { phase = phase.Taking nth }) (λ x. refl)
+      (λ b. refl) refl
+      (λ l ne. updated_other s.lot.queues (key_of c k) (remove (s.lot.queues (key_of c k)) nth) l ne)
 
   -- the calls
   pub taker_after : call_at u t ≡ Some (hears c (took_told s c k nth w))

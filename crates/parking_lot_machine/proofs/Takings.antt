@@ -93,7 +93,7 @@ module _ (s : State) (t : ℕ) (c : Call) (k : ℕ) (from : stance c.core ≡ In
               here ∙ ap (λ x. full x (lot.queues (key_of c k)) lot) (same_taking _ f.3)
                   ∙ ap (λ (l : Machine). full (Some (taking_of s.lot f.1)) (l.queues (key_of c k)) l) f.4
                   ∙ ap (λ q. full (Some (taking_of s.lot f.1)) q
-                  (taken (in_phase s.lot (phase.Taking f.0)) (key_of c k) f.0))
+                  (taken (in_phase s.lot (key_of c k) (phase.Taking f.0)) (key_of c k) f.0))
                   (updated_at s.lot.queues (key_of c k) (remove (s.lot.queues (key_of c k)) f.0)),
             )
             | inr f ↦ inr (

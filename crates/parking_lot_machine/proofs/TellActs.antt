@@ -1,5 +1,5 @@
 -- The acts that tell and wake: each keeps the machine fit, and is a step of the rules.
-use Rattle.std.proofs.Common.{◌≡◌, ℕ, cond, Bool, false, Option, None, Some, inl, inr, refl, sym, ap, ◌∙◌, ◌≤◌, length}
+use Rattle.std.proofs.Common.{◌≡◌, ℕ, cond, Bool, false, Option, None, Some, refl, sym, ap, ◌∙◌, ◌≤◌, length}
 use Rattle.parking_lot_core_model.specs.declared.parking.UnparkToken.{UnparkToken}
 use Rattle.parking_lot_core_model.specs.Sound as lot
 use Rattle.parking_lot_protocol.specs.declared.act.Act.TheVariants as act
@@ -25,9 +25,9 @@ use Rattle.parking_lot_machine.proofs.Resuming.{goes_on}
 use Rattle.parking_lot_machine.proofs.Rousing.{is_due, first_is_by, passes_roused, roused, rules_roused, wakes_roused}
 use Rattle.parking_lot_machine.proofs.Settling.{rules_told, told_here, told_others, told_state, wakes_told}
 use Rattle.parking_lot_machine_calls.proofs.Stancing.{leads_by, wakes_some}
-use Rattle.parking_lot_machine.proofs.Telling.{inside_stored, mask_fits, store_fits}
+use Rattle.parking_lot_machine.proofs.Telling.{told_on, mask_fits, store_fits}
 use Rattle.parking_lot_machine.proofs.Carrying.{same_call}
-use Rattle.parking_lot_machine.proofs.Passing.{inside_mine, passes_after}
+use Rattle.parking_lot_machine.proofs.Passing.{passes_after}
 use Rattle.std.specs.Option.{option_map}
 use Rattle.std.proofs.lemmas.Option.{none-some}
 use Rattle.parking_lot_machine_calls.specs.declared.seat.WakeResult.{WakeResult}
@@ -50,7 +50,7 @@ passes_told : (s : State) (t : ℕ) (c : Call) (heard : ActResult) (token : Unpa
 passes_told s t c heard token word k h here from to lots =
     let u = told_state s t c heard token word in
     passes_after s u t lots h.passes
-    (inr (inl (inside_stored token s.lot.section ∙ inside_mine s h.lots t c here k Stores from)))
+    (told_on s t c heard token word k h here from).around
     (λ v d j ne at is. settled_was t (told_of token) (call_at s v) d
     (sym (told_others s t c heard token word h here v ne) ∙ at))
     (λ d j o at is there. absurd

@@ -4,7 +4,7 @@ use Rattle.std.proofs.Common.{List, [], ◌∷◌, length, map, Option, Some, No
 use Rattle.std.proofs.Common.{subst}
 use Rattle.std.proofs.lemmas.Bool.{cases_eq}
 use Rattle.std.proofs.lemmas.List.{length-map}
-use Rattle.std.specs.Option.{option_map, option_and_then}
+use Rattle.std.specs.Option.{option_map}
 use Rattle.std.specs.Prelude.{bit_and}
 use Rattle.parking_lot_core_model.specs.Machine.{threads_of}
 use Rattle.parking_lot_core_model.specs.Results.{is_left}
@@ -35,7 +35,7 @@ use Rattle.parking_lot_machine.specs.MutexLaws.{IsTelling}
 use Rattle.parking_lot_machine_calls.specs.CallActs.{settled_spot, settled, told_of}
 use Rattle.parking_lot_machine.specs.RowFits.{FitsTogether, IsPrepared, KnowsList}
 use Rattle.parking_lot_machine_calls.specs.CallKinds.{IsOfKind, IsOfManner}
-use Rattle.parking_lot_machine.specs.Rows.{State, inside, word_at, call_at, hold_at, taken_by, rw_lock_at}
+use Rattle.parking_lot_machine.specs.Rows.{State, word_at, call_at, hold_at, taken_by, rw_lock_at}
 use Rattle.parking_lot_machine.specs.Rows.{mutex_word_of, mutex_at, queue_at}
 use Rattle.parking_lot_machine_calls.specs.CallRoles.{mark_of, first_of_all, mutex_spot}
 use Rattle.parking_lot_machine.specs.RowSteps.{IsMutexMove, IsRwMove}
@@ -69,18 +69,24 @@ use Rattle.parking_lot_machine.proofs.RwTaking.{scans_go_by_tokens}
 use Rattle.parking_lot_machine.proofs.Wanting.{want_as_told}
 use Rattle.parking_lot_machine.proofs.Settling.{told_state, next_call, told_here, told_others, told_threads}
 use Rattle.parking_lot_machine.proofs.Settling.{told_elsewhere}
+use Rattle.parking_lot_core_model.specs.Lists.{updated}
+use Rattle.parking_lot_machine.specs.Rows.{bucket, open_at}
+use Rattle.parking_lot_machine.proofs.Crossings.{Continues, continues}
+use Rattle.parking_lot_machine.proofs.LotActs.{key_is}
+use Rattle.parking_lot_machine.proofs.Making.{entries}
 use Rattle.parking_lot_machine_calls.specs.declared.late_rw.LateRwPhase.{LateRwPhase}
 use Rattle.parking_lot_machine.specs.RwLaws.{IsStep, move_crossing}
 use Rattle.parking_lot_rules.specs.Lock.{On1, to_wake}
 use Rattle.parking_lot_rules.specs.Roles.{Open}
 
 -- a store crosses no section
-pub inside_stored : (token : UnparkToken) (o : Option Section)
-    → option_and_then (λ x. x.thread)
-    (option_map {T = Section} (λ x. record x { phase = section_phase.Stored; token = token }) o) ≡ option_and_then
-    (λ x. x.thread) o
-inside_stored token None = refl
-inside_stored token (Some x) = refl
+pub told_on : (s : State) (t : ℕ) (c : Call) (heard : ActResult) (token : UnparkToken) (word key : ℕ) → FitsTogether s
+    → call_at s t ≡ Some c → stance c.core ≡ In key Stores → Continues s (told_state s t c heard token word) t
+told_on s t c heard token word key h here from =
+    let tells : Section → Section = λ x. record x { phase = section_phase.Stored; token = token } in
+    continues s (told_state s t c heard token word) t c h.lots here key Stores from tells (λ x. refl)
+    (λ b. ap (λ (i : ℕ). updated s.lot.sections (bucket s i) (option_map tells (open_at s i)) b)
+    (key_is c key Stores from)) refl (λ l ne. refl)
 
 pub left_threads : (waiters : List Waiter) → is_left (threads_of waiters) ≡ is_left waiters
 left_threads [] = refl
@@ -226,7 +232,7 @@ module _ (s : State) (t : ℕ) (c : Call) (plain fair : WordChange) (is_fair : B
             (call_told_here l t x n at vs z.scan (told_of token) met.sound z.mine p there_is))
             (word_after (core_act (rw_call y)) heard (word_at s c.lock))
             (ap (λ (x : Act). word_after x heard (word_at s c.lock)) (sym asks)))
-            (inside_stored token s.lot.section) tt)),
+            (tt, (told_on s t c heard token word key h here (ap stance e ∙ is)).entered) tt)),
         well.0,
         well.1,
         λ x. absurd (two_kinds (sym kind_is ∙ x)),
@@ -261,7 +267,7 @@ module _ (s : State) (t : ℕ) (c : Call) (plain fair : WordChange) (is_fair : B
             (tells_call (mutex_at s c.lock) t x (of_mutex.taken_of first has) vs (told_of token) playing.sound
             playing.here at p there_is))
             (word_after (of_mutex_table.act_of (MutexPhase.Stores giving has left)) heard (word_at s c.lock)) written)
-            (inside_stored token s.lot.section)
+            (tt, (told_on s t c heard token word key h here (ap stance e ∙ is)).entered)
             (roles.taken (MutexPhase.Stores giving has left) taken telling.taken (exact s h t c z e here (λ w. cc))
             telling.count)),
         subst (IsPrepared (recursive_in s.kinds c.lock) c.others) e (h.rules.prepared t c here),
@@ -297,7 +303,7 @@ module _ (s : State) (t : ℕ) (c : Call) (keep : ℕ) (asked : core_act c.core 
       → CallWants z before
       → IsStep (recursive_in s.kinds c.lock) t (Alone step) (rw_lock_at s c.lock)
       (call_lock (rw_lock_at s c.lock) t c.others (taken_by s.wakes t) z before (word_at s c.lock))
-      → Crossed (move_crossing (of_rw.Makes step)) t (inside s) (inside mask_then)
+      → Crossed (move_crossing (of_rw.Makes step)) t (entries s c.lock) (entries mask_then c.lock)
       → to_wake (call_role c.others c.spot (taken_by s.wakes t) z).does (On1 Open) ≡ []
       → ((key : ℕ) (park : ParkToken) → stance (rw_call (rw_next z before)) ≡ Asleep key park → ⊥)
       → Fitted s mask_then t c before (rw_call z)
@@ -339,7 +345,7 @@ module _ (s : State) (t : ℕ) (c : Call) (keep : ℕ) (asked : core_act c.core 
       (call_makes (recursive_in s.kinds c.lock) (rw_lock_at s c.lock) t c.others c.spot us z (word_at s c.lock) before
       (Mask2 c.others us) (meets s h t c z e here) refl refl
       (ap threads_of (subst (λ (x : Core). KnowsList x s.lot.queues c.lock) e (h.rules.knows t c here))))
-      (inside_stored (sign false) s.lot.section) refl (λ at park w. in_asleep w)
+      (tt, (told_on s t c before (sign false) (bit_and (word_at s c.lock) keep) 1 h here (ap stance e)).entered) refl (λ at park w. in_asleep w)
 
   mask_late_rw : c.core ≡ Core.LateRw LateRwPhase.Masks → Fitted s mask_then t c before (Core.LateRw LateRwPhase.Masks)
   mask_late_rw e =
@@ -348,7 +354,7 @@ module _ (s : State) (t : ℕ) (c : Call) (keep : ℕ) (asked : core_act c.core 
       mask_by z Mask1 e refl refl (λ f g. tt) tt
       (tardy_makes (recursive_in s.kinds c.lock) (rw_lock_at s c.lock) t c.others c.spot us LateRwPhase.Masks
       (word_at s c.lock) before (meets s h t c z e here) refl Mask1 refl)
-      (inside_stored (sign false) s.lot.section) refl (λ at park w. in_asleep w)
+      (tt, (told_on s t c before (sign false) (bit_and (word_at s c.lock) keep) 0 h here (ap stance e)).entered) refl (λ at park w. in_asleep w)
 
   mask_rw : (y : RwCall) → c.core ≡ rw_call y → Fitted s mask_then t c before (rw_call y)
   mask_rw y e = elim (call_masks (recursive_in s.kinds c.lock) c.others keep y
@@ -394,7 +400,7 @@ module _ (s : State) (t : ℕ) (c : Call) (keep : ℕ) (asked : core_act c.core 
               queue = (mutex_at s c.lock).queue;
             })
             (map_none (mutex_at s c.lock).roles)))
-            (inside_stored (sign false) s.lot.section),
+            (tt, (told_on s t c before (sign false) (bit_and x keep) 0 h here (ap stance e)).entered),
         subst (IsPrepared (recursive_in s.kinds c.lock) c.others) e (h.rules.prepared t c here),
         tt,
         λ m. subst (λ n. n < 4) (sym (word-here s.words c.lock (bit_and x keep) (has_word s h t c here))) off.1,

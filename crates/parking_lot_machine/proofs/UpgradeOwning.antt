@@ -1,5 +1,5 @@
 -- Acts that a thread makes by itself in an upgradable call: which moves they are, and where it begins.
-use Rattle.std.proofs.Common.{◌≡◌, ℕ, ◌+◌, ◌%◌, ◌^◌, ◌&&◌, cond, Bool, true, false, List, Option, refl, subst}
+use Rattle.std.proofs.Common.{◌≡◌, ℕ, ◌+◌, ◌%◌, ◌^◌, ◌&&◌, cond, Bool, true, false, List, refl, subst}
 use Rattle.std.proofs.lemmas.Bool.{both_ways}
 use Rattle.parking_lot_rules.specs.Plain.{Plain}
 use Rattle.parking_lot_rules.specs.Roles.{Idle, Owned}
@@ -21,7 +21,8 @@ use Rattle.parking_lot_protocol_rw.specs.declared.upgrade_phase.Release.{Release
 use Rattle.parking_lot_protocol_rw.specs.declared.upgrade_phase.UpgradePhase.{UpgradePhase}
 use Rattle.parking_lot_machine.specs.RowFits.{upgrade_begins, upgrade_prepared}
 use Rattle.parking_lot_machine_calls.specs.CallKinds.{IsOfWorld, seeks_room}
-use Rattle.parking_lot_machine_calls.specs.Stances.{upgrade_begun}
+use Rattle.parking_lot_machine_calls.specs.Stances.{Out, rw_stance, seeks_stance, upgrade_begun, upgrade_stance}
+use Rattle.parking_lot_machine.proofs.Making.{Entries}
 use Rattle.parking_lot_machine.proofs.OwnMoves.{AfterAct, IsOwnAct, OwnMove}
 
 -- WHAT IT IS TOLD
@@ -58,7 +59,7 @@ upgrade_told p x s b o own g = g
 
 -- WHICH MOVES
 
-module _ (t : ℕ) (old new : Option ℕ) where
+module _ (t : ℕ) (old new : Entries) where
   if_so : (b : Bool) (k : Plain) → OwnMove (Makes k) t old new → OwnMove Stays t old new
       → OwnMove (cond b (Makes k) Stays) t old new
   if_so true k h j = h
@@ -70,13 +71,13 @@ module _ (t : ℕ) (old new : Option ℕ) where
   if_not false k h j = h
 
   -- a call that asks where it has seen room
-  asks_roomy : (b : Bool) (from to : ℕ) → b ≡ true → AfterAct (cond b (Act.Exchange from to) Act.Load) t old new
+  asks_roomy : (b : Bool) (from to : ℕ) → b ≡ true → AfterAct Out (cond b (Act.Exchange from to) Act.Load) t old new
       → OwnMove Stays t old new
   asks_roomy true from to e h = h
   asks_roomy false from to e h = absurd (no_start e)
 
   seeks_own : (q : RwPhase) (s : ActResult) → IsSeeking q → seeks_room q → IsOwnAct (ut.seeks_act q)
-      → AfterAct (ut.seeks_act q) t old new → OwnMove (seeks_move q s) t old new
+      → AfterAct (seeks_stance q) (ut.seeks_act q) t old new → OwnMove (seeks_move q s) t old new
   seeks_own (RwPhase.Loads a) s i room own h = h
   seeks_own (RwPhase.Admits a word) ActResult.Exchanged i room own h = asks_roomy (rt.has_room word) word
       ((word + 20) % 2 ^ 64) room h
@@ -94,7 +95,7 @@ module _ (t : ℕ) (old new : Option ℕ) where
   seeks_own (RwPhase.Sleeps want) s i room own h = absurd own
   seeks_own q s i room own h = absurd i
 
-  drains_own : (q : RwPhase) (s : ActResult) → IsDraining q → IsOwnAct (rt.act_of q) → AfterAct (rt.act_of q) t old new
+  drains_own : (q : RwPhase) (s : ActResult) → IsDraining q → IsOwnAct (rt.act_of q) → AfterAct (rw_stance q) (rt.act_of q) t old new
       → OwnMove (drains_move q s) t old new
   drains_own (RwPhase.DrainLoads d) (ActResult.Word word) i own h = if_not (rt.has_readers word) _ h h
   drains_own (RwPhase.DrainLoads d) s i own h = h
@@ -118,7 +119,7 @@ module _ (t : ℕ) (old new : Option ℕ) where
   ends_free r k own = subst (λ b. IsOwnAct (cond b Act.Load (Act.Done CoreAnswer.Released))) k own
 
   frees_own : (us : List ℕ) (r : Release) (q : RwPhase) (s : ActResult) → ut.is_again r ≡ false → IsFreeing q
-      → IsOwnAct (ut.frees_act r q) → AfterAct (ut.frees_act r q) t old new → OwnMove (frees_move us q s) t old new
+      → IsOwnAct (ut.frees_act r q) → AfterAct (rw_stance q) (ut.frees_act r q) t old new → OwnMove (frees_move us q s) t old new
   frees_own us r (RwPhase.LooksExclusive fair rest) s k i own h = h
   frees_own us r (RwPhase.Scans a) s k i own h = absurd own
   frees_own us r (RwPhase.Stores a left) s k i own h = absurd own
@@ -128,7 +129,7 @@ module _ (t : ℕ) (old new : Option ℕ) where
   frees_own us r q s k i own h = absurd i
 
   owes_own : (o : Owned) (us : List ℕ) (kept : Hold) (end : CoreAnswer) (q : RwPhase) (s : ActResult) → IsOwing q
-      → IsOwnAct (ut.owes_act kept end q) → AfterAct (ut.owes_act kept end q) t old new
+      → IsOwnAct (ut.owes_act kept end q) → AfterAct (rw_stance q) (ut.owes_act kept end q) t old new
       → OwnMove (owes_move o us q s) t old new
   owes_own o us kept end RwPhase.EnterWakeSection s i own h = h
   owes_own o us kept end (RwPhase.Scans a) s i own h = absurd own
@@ -143,7 +144,7 @@ module _ (t : ℕ) (old new : Option ℕ) where
   yields_own false owing h = h
 
   pub upgrade_moves : (n : ℕ) (us : List ℕ) (p : UpgradePhase) (s : ActResult) → IsReady p → IsOfWorld p
-      → IsOwnAct (ut.act_of p) → AfterAct (ut.act_of p) t old new → OwnMove (move n us p s) t old new
+      → IsOwnAct (ut.act_of p) → AfterAct (upgrade_stance p) (ut.act_of p) t old new → OwnMove (move n us p s) t old new
   upgrade_moves n us (UpgradePhase.Plain core) s i o own h = absurd o
   upgrade_moves n us (UpgradePhase.Seeks core) s i o own h = seeks_own core.phase s i.0 o own h
   upgrade_moves n us (UpgradePhase.Drains core) s i o own h = drains_own core.phase s i.0 own h
@@ -163,15 +164,15 @@ module _ (t : ℕ) (old new : Option ℕ) where
 -- WHERE IT BEGINS
 
 -- a call that begins is no step by itself, or a move of its own, and its thread is in the role of one in no call
-pub upgrade_starts : (t n : ℕ) (spot : QueuePosition) (us : List ℕ) (p : UpgradePhase) (x : ℕ) (o : Option ℕ)
+pub upgrade_starts : (t n : ℕ) (spot : QueuePosition) (us : List ℕ) (p : UpgradePhase) (x : ℕ) (o : Entries)
     → upgrade_begins p
     → (role n spot us p ≡ record { owns = owns n p; does = Idle }) × IsTold p x ActResult.Start × upgrade_prepared us p
     × OwnMove (move n us p ActResult.Start) t o o
-upgrade_starts t n spot us UpgradePhase.Locking x o k = (refl, tt, tt, refl)
-upgrade_starts t n spot us UpgradePhase.Trying x o k = (refl, tt, tt, refl)
-upgrade_starts t n spot us (UpgradePhase.Unlocking r) x o k = (refl, tt, tt, refl)
-upgrade_starts t n spot us UpgradePhase.Upgrading x o k = (refl, tt, tt, refl)
-upgrade_starts t n spot us UpgradePhase.TryingToUpgrade x o k = (refl, tt, tt, refl)
-upgrade_starts t n spot us UpgradePhase.DowngradingToShared x o k = (refl, tt, tt, refl)
-upgrade_starts t n spot us UpgradePhase.DowngradingToUpgradable x o k = (refl, tt, tt, refl)
+upgrade_starts t n spot us UpgradePhase.Locking x o k = (refl, tt, tt, (tt, λ b. refl))
+upgrade_starts t n spot us UpgradePhase.Trying x o k = (refl, tt, tt, (tt, λ b. refl))
+upgrade_starts t n spot us (UpgradePhase.Unlocking r) x o k = (refl, tt, tt, (tt, λ b. refl))
+upgrade_starts t n spot us UpgradePhase.Upgrading x o k = (refl, tt, tt, (tt, λ b. refl))
+upgrade_starts t n spot us UpgradePhase.TryingToUpgrade x o k = (refl, tt, tt, (tt, λ b. refl))
+upgrade_starts t n spot us UpgradePhase.DowngradingToShared x o k = (refl, tt, tt, (tt, λ b. refl))
+upgrade_starts t n spot us UpgradePhase.DowngradingToUpgradable x o k = (refl, tt, tt, (tt, λ b. refl))
 upgrade_starts t n spot us p x o k = absurd k

@@ -18,8 +18,9 @@ use Rattle.parking_lot_protocol.specs.RwRules as rw
 use Rattle.parking_lot_protocol_rw.specs.UpgradeTable as ut
 use Rattle.parking_lot_core_model.specs.declared.parking.UnparkToken.{UnparkToken}
 use Rattle.parking_lot_protocol.specs.declared.act.SectionAct.TheVariants as section
-use Rattle.parking_lot_machine_calls.specs.Stances.{rw_taken, upgrade_taken}
-use Rattle.parking_lot_machine.specs.Ranks.{Sees, Unseen, View, comes_after, rw_steps, scan, wake}
+use Rattle.parking_lot_machine_calls.specs.Stances.{rw_stance, rw_taken, seeks_stance, upgrade_stance}
+use Rattle.parking_lot_machine_calls.specs.Stances.{upgrade_taken}
+use Rattle.parking_lot_machine.specs.Ranks.{Sees, Shut, Unseen, View, comes_after, rw_steps, scan, wake}
 use Rattle.parking_lot_machine.specs.RankLaws.{Can, Leaves, StopsAt}
 use Rattle.parking_lot_machine.specs.UpgradeRanks.{UpgradeStepsFall}
 use Rattle.parking_lot_machine_calls.specs.CallKinds.{IsOfWorld, seeks_room}
@@ -53,7 +54,7 @@ comes_some : (v : View) (want : LockMode) → 1 ≤ comes_after v want
 comes_some v (LockMode.Shared recursive) = omega arith
 comes_some v LockMode.Exclusive = omega arith
 
-module _ (n word first after : ℕ) (shut : Bool) (room : word / 16 < 2 ^ 60 - 1) where
+module _ (n word first after : ℕ) (shut : Shut) (room : word / 16 < 2 ^ 60 - 1) where
   abbrev Falls : Act → ActResult → UpgradePhase → ℕ → Type 0
   Falls a s p c = upgrade_steps n (Sees (word_after a s word) after shut) p + 1 ≤ c
 
@@ -77,7 +78,7 @@ module _ (n word first after : ℕ) (shut : Bool) (room : word / 16 < 2 ^ 60 - 1
   admits_fall a from s ready true e g l = absurd g
 
   seeks_fall : (q : RwPhase) (s : ActResult) → IsSeeking q → rw.IsReady q → seeks_room q → Gives (ut.seeks_act q) word s
-      → Can (ut.seeks_act q) shut s → Leaves (ut.seeks_act q) s first after → Falls (ut.seeks_act q) s (seeks_next q s)
+      → Can (seeks_stance q) (ut.seeks_act q) shut s → Leaves (ut.seeks_act q) s first after → Falls (ut.seeks_act q) s (seeks_next q s)
       (rw_steps n (Sees word first shut) q)
   seeks_fall (RwPhase.Admits a from) s i ready here g c l = admits_fall a from s ready (rt.has_room from) here g l
   seeks_fall (RwPhase.Loads a) (ActResult.Word v) i ready here g c l = steps_fall.falls n (RwPhase.Loads a)
@@ -148,7 +149,7 @@ module _ (n word first after : ℕ) (shut : Bool) (room : word / 16 < 2 ^ 60 - 1
   finish_falls s true e g = absurd (both_ways true e refl)
 
   frees_fall : (r : Release) (q : RwPhase) (s : ActResult) → IsFreeing q → ut.is_again r ≡ false
-      → Gives (ut.frees_act r q) word s → Can (ut.frees_act r q) shut s → Leaves (ut.frees_act r q) s first after
+      → Gives (ut.frees_act r q) word s → Can (rw_stance q) (ut.frees_act r q) shut s → Leaves (ut.frees_act r q) s first after
       → Falls (ut.frees_act r q) s (frees_next r q s) (rw_steps n (Sees word first shut) q)
   frees_fall r (RwPhase.LooksExclusive fair rest) ActResult.Entered i once g c l =
       steps_fall.falls n (RwPhase.LooksExclusive fair rest) ActResult.Entered word first after shut room
@@ -206,7 +207,7 @@ module _ (n word first after : ℕ) (shut : Bool) (room : word / 16 < 2 ^ 60 - 1
   -- OWING A LOOK
 
   owes_fall : (hold : Hold) (end : CoreAnswer) (q : RwPhase) (s : ActResult) → IsOwing q
-      → Gives (ut.owes_act hold end q) word s → Can (ut.owes_act hold end q) shut s
+      → Gives (ut.owes_act hold end q) word s → Can (rw_stance q) (ut.owes_act hold end q) shut s
       → Leaves (ut.owes_act hold end q) s first after
       → Falls (ut.owes_act hold end q) s (UpgradePhase.Owes hold end (ut.core_at (rt.next_phase q s)))
       (rw_steps n (Sees word first shut) q)
@@ -287,7 +288,7 @@ module _ (n word first after : ℕ) (shut : Bool) (room : word / 16 < 2 ^ 60 - 1
   owes_few hold end w v = few_of n v (rt.is_parked w) _ _ _ (omega arith) (omega arith)
 
   falls : (p : UpgradePhase) (s : ActResult) → IsReady p → IsOfWorld p → Gives (ut.act_of p) word s
-      → Can (ut.act_of p) shut s → Leaves (ut.act_of p) s first after → Falls (ut.act_of p) s (ut.next_phase p s)
+      → Can (upgrade_stance p) (ut.act_of p) shut s → Leaves (ut.act_of p) s first after → Falls (ut.act_of p) s (ut.next_phase p s)
       (upgrade_steps n (Sees word first shut) p)
   falls (UpgradePhase.Plain core) s i k g c l = absurd k
   falls (UpgradePhase.Seeks core) s i k g c l = seeks_fall core.phase s i.0 i.1 k g c l
@@ -443,7 +444,7 @@ few_found : (n first : ℕ) (shut : Bool) → first ≤ n → cond shut n first 
 few_found n first true h = omega arith
 few_found n first false h = h
 
-few : (n word first : ℕ) (shut : Bool) (p : UpgradePhase) → first ≤ n → upgrade_steps n (Sees word first shut) p ≤
+few : (n word first : ℕ) (shut : Shut) (p : UpgradePhase) → first ≤ n → upgrade_steps n (Sees word first shut) p ≤
     upgrade_steps n Unseen p
 few n word first shut (UpgradePhase.Plain core) h = steps_fall.few n word first shut core.phase h
 few n word first shut (UpgradePhase.Seeks core) h = steps_fall.few n word first shut core.phase h
@@ -452,44 +453,44 @@ few n word first shut (UpgradePhase.Frees r core) h = steps_fall.few n word firs
 few n word first shut (UpgradePhase.Owes kept end core) h = steps_fall.few n word first shut core.phase h
 few n word first shut (UpgradePhase.TryAdmits from left) h = either (word == from) 2 3 3 (omega arith) (omega arith)
 few n word first shut (UpgradePhase.TryUpgrades from left) h = either (word == from) 2 3 3 (omega arith) (omega arith)
-few n word first shut UpgradePhase.Upgrades h = omega (arith, either (not shut) 4 9 9 (omega arith) (omega arith))
-few n word first shut (UpgradePhase.UnlockLoads r) h = omega (arith, few_found n first shut h)
+few n word first shut UpgradePhase.Upgrades h = omega (arith, either (not shut.second) 4 9 9 (omega arith) (omega arith))
+few n word first shut (UpgradePhase.UnlockLoads r) h = omega (arith, few_found n first shut.first h)
 few n word first shut (UpgradePhase.Unlocks r from) h = either (word == from) 2 (scan n (Sees word first shut) + 8)
-    (scan n Unseen + 8) (omega arith) (omega (arith, few_found n first shut h))
-few n word first shut UpgradePhase.ToShared h = omega (arith, few_found n first shut h)
-few n word first shut UpgradePhase.ToUpgradable h = omega (arith, few_found n first shut h)
-few n word first shut (UpgradePhase.YieldLoads from) h = omega (arith, few_found n first shut h)
+    (scan n Unseen + 8) (omega arith) (omega (arith, few_found n first shut.first h))
+few n word first shut UpgradePhase.ToShared h = omega (arith, few_found n first shut.first h)
+few n word first shut UpgradePhase.ToUpgradable h = omega (arith, few_found n first shut.first h)
+few n word first shut (UpgradePhase.YieldLoads from) h = omega (arith, few_found n first shut.first h)
 few n word first shut (UpgradePhase.Yields from tried) h = either (word == tried) (scan n (Sees word first shut) + 7)
-    (scan n (Sees word first shut) + 8) (scan n Unseen + 8) (omega (arith, few_found n first shut h))
-    (omega (arith, few_found n first shut h))
+    (scan n (Sees word first shut) + 8) (scan n Unseen + 8) (omega (arith, few_found n first shut.first h))
+    (omega (arith, few_found n first shut.first h))
 few n word first shut p h = omega arith
 
-stops_not : (b : Bool) (x y : Act) (shut : Bool) → (StopsAt x shut → ⊥) → (StopsAt y shut → ⊥)
+stops_not : (b : Bool) (x y : Act) (shut : Shut) → (StopsAt x shut → ⊥) → (StopsAt y shut → ⊥)
     → StopsAt (cond b x y) shut → ⊥
 stops_not true x y shut f g h = f h
 stops_not false x y shut f g h = g h
 
-seeks_stop : (n : ℕ) (q : RwPhase) (word first : ℕ) (shut : Bool) → StopsAt (ut.seeks_act q) shut
+seeks_stop : (n : ℕ) (q : RwPhase) (word first : ℕ) (shut : Shut) → StopsAt (ut.seeks_act q) shut
     → rw_steps n Unseen q ≤ rw_steps n (Sees word first shut) q
 seeks_stop n (RwPhase.Admits a from) word first shut h =
     absurd (stops_not (rt.has_room from) (Act.Exchange from ((from + 20) % 2 ^ 64)) Act.Load shut (λ x. x) (λ x. x) h)
 seeks_stop n (RwPhase.Appends want) word first shut h = absurd h
 seeks_stop n q word first shut h = steps_fall.stops n q word first shut h
 
-frees_stop : (n : ℕ) (r : Release) (q : RwPhase) (word first : ℕ) (shut : Bool) → StopsAt (ut.frees_act r q) shut
+frees_stop : (n : ℕ) (r : Release) (q : RwPhase) (word first : ℕ) (shut : Shut) → StopsAt (ut.frees_act r q) shut
     → rw_steps n Unseen q ≤ rw_steps n (Sees word first shut) q
 frees_stop n r (RwPhase.Stores a left) word first shut h = absurd h
 frees_stop n r (RwPhase.Finishes rest) word first shut h =
     absurd (stops_not (ut.is_again r) Act.Load (Act.Done CoreAnswer.Released) shut (λ x. x) (λ x. x) h)
 frees_stop n r q word first shut h = steps_fall.stops n q word first shut h
 
-owes_stop : (n : ℕ) (kept : Hold) (end : CoreAnswer) (q : RwPhase) (word first : ℕ) (shut : Bool)
+owes_stop : (n : ℕ) (kept : Hold) (end : CoreAnswer) (q : RwPhase) (word first : ℕ) (shut : Shut)
     → StopsAt (ut.owes_act kept end q) shut → rw_steps n Unseen q ≤ rw_steps n (Sees word first shut) q
 owes_stop n kept end (RwPhase.Scans a) word first shut h = absurd h
 owes_stop n kept end (RwPhase.Finishes rest) word first shut h = absurd h
 owes_stop n kept end q word first shut h = steps_fall.stops n q word first shut h
 
-stops : (n : ℕ) (p : UpgradePhase) (word first : ℕ) (shut : Bool) → StopsAt (ut.act_of p) shut
+stops : (n : ℕ) (p : UpgradePhase) (word first : ℕ) (shut : Shut) → StopsAt (ut.act_of p) shut
     → upgrade_steps n Unseen p ≤ upgrade_steps n (Sees word first shut) p
 stops n (UpgradePhase.Plain core) word first shut h = steps_fall.stops n core.phase word first shut h
 stops n (UpgradePhase.Seeks core) word first shut h = seeks_stop n core.phase word first shut h

@@ -10,7 +10,8 @@ use Rattle.std.proofs.lemmas.Option.{slice_get_within}
 use Rattle.std.specs.List.{position_or_len}
 use Rattle.parking_lot_core_model.proofs.Kept.{slice_get-seam, eqb_false_symm}
 use Rattle.parking_lot_core_model.proofs.Numbers.{flag, count_by-set, count_by-map_same}
-use Rattle.parking_lot_core_model.proofs.Sounds.{none≢some, by_eqb}
+use Rattle.parking_lot_core_model.proofs.Entering.{none≢some}
+use Rattle.parking_lot_core_model.proofs.Kept.{by_eqb}
 use Rattle.parking_lot_machine_calls.specs.declared.seat.QueuePosition.{QueuePosition}
 use Rattle.parking_lot_machine_calls.specs.declared.seat.WakeResult.{WakeResult}
 use Rattle.parking_lot_machine_calls.specs.declared.open_call.Call.{Call}

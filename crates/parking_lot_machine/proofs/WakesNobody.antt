@@ -1,6 +1,6 @@
 -- The machine once a thread that was to wake others has woken nobody, since all of them have gone on by themselves:
 -- nothing changes at its lock.
-use Rattle.std.proofs.Common.{◌≡◌, ◌*◌, ◌+◌, ℕ, inr, List, [], Some, slice_get, slice_set, refl, sym, ap, ◌∙◌, subst}
+use Rattle.std.proofs.Common.{◌≡◌, ◌*◌, ◌+◌, ℕ, List, [], Some, slice_get, slice_set, refl, sym, ap, ◌∙◌, subst}
 use Rattle.std.proofs.Common.{arith}
 use Rattle.parking_lot_core_model.specs.declared.parking.ParkToken.{ParkToken}
 use Rattle.parking_lot_rules.specs.Mutex as mutex
@@ -66,6 +66,7 @@ module _ (s : State) (t : ℕ) (c : Call) (asked : core_act c.core ≡ Act.Secti
     word = sym (ap (λ (a : Act). word_after a ActResult.Made (word_at s c.lock)) asked);
     words = λ i ne. refl;
     queues = λ i k ne b. refl;
+    buckets = refl;
     listed = λ k token e. absurd (out_asleep (sym to ∙ e));
   }
 
@@ -91,7 +92,7 @@ module _ (s : State) (t : ℕ) (c : Call) (asked : core_act c.core ≡ Act.Secti
             (subst (λ m. IsRwMove m us c.lock t s u) (sym (p.move us))
             (subst (λ vs. IsRwMove of_rw.WakesOne vs c.lock t s u) (sym none)
             (quiet of_rws s u t c.lock (own-there s u t c ActResult.Made _ c.spot a)
-            (own-elsewhere s u t c ActResult.Made _ c.spot a) kind_is still refl))),
+            (own-elsewhere s u t c ActResult.Made _ c.spot a) kind_is still (λ b. refl)))),
         well.0,
         well.1,
         h.rules.bits c.lock,
@@ -112,7 +113,7 @@ module _ (s : State) (t : ℕ) (c : Call) (asked : core_act c.core ≡ Act.Secti
       ∙ same of_mutexes _ _ _ _ _ _ [] [] refl (set-same (roles_at of_mutexes s c.lock) t _ waits) refl refl in (
         subst (λ vs. IsMutexMove of_mutex.WakesOne vs c.lock t s u) (sym none)
             (quiet of_mutexes s u t c.lock (own-there s u t c ActResult.Made _ c.spot a)
-            (own-elsewhere s u t c ActResult.Made _ c.spot a) kind_is still refl),
+            (own-elsewhere s u t c ActResult.Made _ c.spot a) kind_is still (λ b. refl)),
         subst (IsPrepared (recursive_in s.kinds c.lock) c.others) e (h.rules.prepared t c here),
         tt,
         h.rules.bits c.lock,
@@ -148,7 +149,7 @@ wakes_nobody s t c asked none h here =
         fits = record {
           lots = lots;
           passes = own_passes s (woke_nobody s t c) t c ActResult.Made (core_next c.core ActResult.Made) c.spot a lots
-              h.passes (inr (inr (refl, λ key. refl))) (λ k o e. absurd (out_takes (sym leads.1 ∙ e)));
+              h.passes (λ v k o ne at whose. (at, refl)) (λ k o e. absurd (out_takes (sym leads.1 ∙ e)));
           wakes = wakes_own s (woke_nobody s t c) t c ActResult.Made (core_next c.core ActResult.Made) a h.wakes;
           rules = both.0;
         };

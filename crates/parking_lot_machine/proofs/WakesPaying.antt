@@ -1,5 +1,5 @@
 -- Wakes, answers and beginnings are paid for; and where a thread can't move, another may be stepped.
-use Rattle.std.proofs.Common.{◌≡◌, ◌||◌, ℕ, ◌+◌, ◌<◌, ◌≤◌, Bool, length, Some, None, slice_get, slice_set, sum_by, refl}
+use Rattle.std.proofs.Common.{◌≡◌, ◌||◌, ℕ, zero, suc, ◌+◌, ◌*◌, ◌<◌, ◌≤◌, inl, inr, Bool, length, Some, None, slice_get, slice_set, sum_by, refl}
 use Rattle.std.proofs.Common.{sym, ap, ◌∙◌, subst, arith, true, false, not, Option, is_some}
 use Rattle.std.specs.Option.{option_and_then}
 use Rattle.std.proofs.lemmas.Bool.{ne_eqb, both_ways}
@@ -9,7 +9,13 @@ use Rattle.parking_lot_machine_calls.specs.Kinds.{kind_in}
 use Rattle.parking_lot_machine_calls.specs.declared.seat.LatePhase.{LatePhase}
 use Rattle.parking_lot_machine_calls.specs.declared.seat.Core.{Core}
 use Rattle.parking_lot_machine_calls.specs.declared.open_call.Call.{Call}
-use Rattle.parking_lot_machine.specs.Rows.{State, word_at, call_at, first_key, inside}
+use Rattle.parking_lot_machine.specs.Rows.{State, word_at, call_at, first_key}
+use Rattle.parking_lot_machine.specs.Rows.{bucket, entered_by, open_at}
+use Rattle.parking_lot_machine.specs.Ranks.{Shut}
+use Rattle.parking_lot_machine.specs.RankLaws.{shut_at}
+use Rattle.parking_lot_machine_calls.specs.CallActs.{key_of}
+use Rattle.parking_lot_machine_calls.proofs.Stancing.{small_key}
+use Rattle.parking_lot_machine.proofs.LotActs.{no_section}
 use Rattle.parking_lot_machine_calls.specs.Stances.{core_act, core_next, late_act, late_next, Out, taken_count}
 use Rattle.parking_lot_machine_calls.specs.Stances.{late_rw_act, late_rw_next, sleeper_asleep}
 use Rattle.parking_lot_machine.specs.RowFits.{FitsTogether}
@@ -45,7 +51,7 @@ use Rattle.parking_lot_machine_calls.specs.declared.late_rw.LateRwPhase.{LateRwP
 use Rattle.parking_lot_machine_calls.specs.declared.late_rw.RwSleeper.{RwSleeper}
 use Rattle.parking_lot_machine_calls.specs.CallViews.{IsReadySleeper}
 use Rattle.parking_lot_machine.proofs.Sleepers.{by_sleeper}
-use Rattle.parking_lot_machine.proofs.Paying.{IsGood, IsGoodLate, is_good, few_in_list, call-within, pays}
+use Rattle.parking_lot_machine.proofs.Paying.{IsGood, IsGoodLate, is_good, few_in_list, call-within, pays, shut_in}
 
 -- ONE CALL, AT EITHER KIND OF LOCK
 
@@ -123,7 +129,7 @@ late_rw_stops n (LateRwPhase.Expires k) v good = omega (arith, sleeper_still n v
 late_rw_stops n (LateRwPhase.WasTaken k by handed) v good = omega (arith, sleeper_still n v k good)
 late_rw_stops n p v good = omega arith
 
-core_stops : (n x : ℕ) (c : Core) (word first : ℕ) (shut : Bool) → IsGood c x → StopsAt (core_act c) shut
+core_stops : (n x : ℕ) (c : Core) (word first : ℕ) (shut : Shut) → IsGood c x → StopsAt (core_act c) shut
     → core_steps n Unseen c ≤ core_steps n (Sees word first shut) c
 core_stops n x (Core.Mutex c) word first shut good stops = of_mutex.steps_fall.stops c.phase word first shut stops
 core_stops n x (Core.Rw c) word first shut good stops = of_rw.steps_fall.stops n c.phase word first shut stops
@@ -187,7 +193,7 @@ ends_pay s t c answer here asked =
 
 -- NO MORE THAN WHERE ANOTHER IS STEPPED
 
-late_rw_few : (n word first : ℕ) (shut : Bool) (p : LateRwPhase) → first ≤ n → late_rw_steps n (Sees word first shut) p
+late_rw_few : (n word first : ℕ) (shut : Shut) (p : LateRwPhase) → first ≤ n → late_rw_steps n (Sees word first shut) p
     ≤ late_rw_steps n Unseen p
 late_rw_few n word first shut (LateRwPhase.Expires (RwSleeper.Simple c)) few =
     omega (arith, of_rw.steps_fall.few n word first shut c.phase few)
@@ -199,7 +205,7 @@ late_rw_few n word first shut (LateRwPhase.WasTaken (RwSleeper.Upgradable c) by 
     omega (arith, of_upgrade.upgrade_steps_fall.few n word first shut c.phase few)
 late_rw_few n word first shut p few = omega arith
 
-own_few : (s : State) → FitsTogether s → (word j : ℕ) (shut : Bool) (c : Core) → IsOfKind (slice_get s.kinds j) c
+own_few : (s : State) → FitsTogether s → (word j : ℕ) (shut : Shut) (c : Core) → IsOfKind (slice_get s.kinds j) c
     → core_steps (length s.calls) (Sees word (length (s.lot.queues (first_key j))) shut) c ≤ core_steps (length s.calls)
     Unseen c
 own_few s h word j shut (Core.Mutex c) is = of_mutex.steps_fall.few c.phase
@@ -253,7 +259,7 @@ begins_cost s t c what h may is =
       ap (λ m. sum_by (far_steps m) (slice_set u.calls t None)) (length-set s.calls t (Some d)),
       others_same n s.calls t (Some d),
       ap (λ x. core_steps n sees (core_next x seen.Start)) is,
-      own_few s h (word_at u c.lock) c.lock (is_shut_to t (inside u))
+      own_few s h (word_at u c.lock) c.lock (shut_in u t c.lock)
           (core_next (core_of (kind_in s.kinds c.lock) what) seen.Start)
           (same_kind (core_of (kind_in s.kinds c.lock) what) seen.Start (slice_get s.kinds c.lock)
           (subst (IsOfKind (slice_get s.kinds c.lock)) is may.kind)),
@@ -269,23 +275,39 @@ nor_else false e = e
 module _ (s : State) (h : FitsTogether s) where
   pub none_more : (u : ℕ) (o : Option Call) → call_at s u ≡ o → own_steps s u o ≤ far_steps (length s.calls) o
   none_more u None at = omega arith
-  none_more u (Some c) at = own_few s h (word_at s c.lock) c.lock (is_shut_to u (inside s)) c.core
+  none_more u (Some c) at = own_few s h (word_at s c.lock) c.lock (shut_in s u c.lock) c.core
       (h.rules.kinds u c at)
 
   is_shut : (t : ℕ) (c : Call) (key : ℕ) → call_at s t ≡ Some c → core_act c.core ≡ Act.Enter key → (o : Option Section)
-      → s.lot.section ≡ o → is_some o ≡ true → is_shut_to t (option_and_then (λ x. x.thread) o) ≡ true
+      → open_at s (key_of c key) ≡ o → is_some o ≡ true → is_shut_to t (entered_by s (key_of c key)) ≡ true
   is_shut t c key here asked None e some = absurd (both_ways false refl some)
   is_shut t c key here asked (Some x) e some =
-      let by = h.lots.opened x e in
+      let by = h.lots.opened (bucket s (key_of c key)) x e in
       let leads = leads_by c.core (Act.Enter key) (word_at s c.lock) seen.Entered asked tt in
       let seat = seat_of s h.lots t c Out here leads.0 in
-      ap (is_shut_to t) by.1 ∙ ap not (ne_eqb by.0 t (λ q. seat.1 x e (by.1 ∙ ap Some q)))
+      ap (λ (o : Option Section). is_shut_to t (option_and_then (λ (y : Section). y.thread) o)) e
+      ∙ (ap (is_shut_to t) by.1 ∙ ap not (ne_eqb by.0 t
+      (λ q. no_section s h.lots t (bucket s (key_of c key)) x seat.1 e (by.1 ∙ ap Some q))))
+
+  shut_there : (t j : ℕ) (key : ℕ) → key < 2 → is_shut_to t (entered_by s (2 * j + key)) ≡ true
+      → shut_at key (shut_in s t j) ≡ true
+  shut_there t j zero two e =
+      let same : 2 * j + 0 ≡ 2 * j = omega arith in subst (λ (n : ℕ). is_shut_to t (entered_by s n) ≡ true) same e
+  shut_there t j (suc key) two e =
+      let same : 2 * j + suc key ≡ 2 * j + 1 = omega (arith, two) in
+      subst (λ (n : ℕ). is_shut_to t (entered_by s n) ≡ true) same e
 
   stops_at : (t : ℕ) (c : Call) → call_at s t ≡ Some c → (a : Act) → core_act c.core ≡ a
-      → is_possible (is_taken s c) a ≡ false → StopsAt a (is_shut_to t (inside s))
+      → is_possible (is_taken s c) a ≡ false → StopsAt a (shut_in s t c.lock)
   stops_at t c here Act.Sleep asked cannot = tt
-  stops_at t c here (Act.Enter key) asked cannot = is_shut t c key here asked s.lot.section refl
-      (some_is (is_some s.lot.section) cannot)
+  stops_at t c here (Act.Enter key) asked cannot =
+      let leads = leads_by c.core (Act.Enter key) (word_at s c.lock) seen.Entered asked tt in
+      let two : key < 2 = elim leads.1 [
+        | inl x ↦ small_key (core_next c.core seen.Entered) key _ x
+        | inr x ↦ small_key (core_next c.core seen.Entered) key _ x
+      ] in
+      shut_there t c.lock key two (is_shut t c key here asked (open_at s (key_of c key)) refl
+      (some_is (is_some (open_at s (key_of c key))) cannot))
     where
       some_is : (b : Bool) → not b ≡ false → b ≡ true
       some_is true e = refl
@@ -296,7 +318,7 @@ module _ (s : State) (h : FitsTogether s) where
       → far_steps (length s.calls) o ≤ own_steps s t o
   none_less t None at cannot = omega arith
   none_less t (Some c) at cannot = core_stops (length s.calls) (word_at s c.lock) c.core (word_at s c.lock)
-      (length (s.lot.queues (first_key c.lock))) (is_shut_to t (inside s)) (is_good s h t c at)
+      (length (s.lot.queues (first_key c.lock))) (shut_in s t c.lock) (is_good s h t c at)
       (stops_at t c at (core_act c.core) refl (nor_else (goes_late s c c.core) cannot))
 
   pub any_may_be_stepped : (t : ℕ) → can_move s t ≡ false → AnyMayBeStepped s t

@@ -15,7 +15,8 @@ use Rattle.parking_lot_machine_calls.specs.declared.seat.Core.{Core}
 use Rattle.parking_lot_machine_calls.specs.declared.seat.Core.TheVariants as core
 use Rattle.parking_lot_machine_calls.specs.declared.open_call.Call.{Call}
 use Rattle.parking_lot_machine_calls.specs.Kinds.{recursive_in}
-use Rattle.parking_lot_machine.specs.Rows.{State, call_at, hold_at}
+use Rattle.parking_lot_machine.specs.Rows.{State, call_at, hold_at, open_at}
+use Rattle.parking_lot_machine_calls.specs.CallActs.{key_of}
 use Rattle.parking_lot_machine_calls.specs.CallRoles.{owned_of, owns_mutex}
 use Rattle.parking_lot_machine_calls.specs.Stances.{core_act, rw_begun, mutex_begun, upgrade_begun}
 use Rattle.parking_lot_machine.specs.RowActs.{loaded, exchanged, added, spun, entered, checked, left, begun, answered}
@@ -63,7 +64,7 @@ pub record ActsAreSteps : Type 0 where
       → Keeps t c s (exchanged s t c from to)
   pub add : (s : State) (t : ℕ) (c : Call) (by : ℕ) → core_act c.core ≡ act.Add by → Keeps t c s (added s t c by)
   pub spin : (s : State) (t : ℕ) (c : Call) → core_act c.core ≡ act.Spin → Keeps t c s (spun s t c)
-  pub enter : (s : State) (t : ℕ) (c : Call) (key : ℕ) → core_act c.core ≡ act.Enter key → s.lot.section ≡ None
+  pub enter : (s : State) (t : ℕ) (c : Call) (key : ℕ) → core_act c.core ≡ act.Enter key → open_at s (key_of c key) ≡ None
       → lot.Sound (entered s t c key).lot → Keeps t c s (entered s t c key)
   pub check : (s : State) (t : ℕ) (c : Call) → core_act c.core ≡ act.Section section.Check
       → lot.Sound (checked s t c).lot → Keeps t c s (checked s t c)

@@ -29,7 +29,7 @@ returned s t c = with_lot (with_call s t (hears c seen.Entered)) (lot.returned s
 abbrev pub found_lot : State → ℕ → Call → Machine
 found_lot s t c = stored
     (in_phase (record (lot.returned s.lot t (late_key c)) { places = slice_set s.lot.places t (Some Running) })
-    phase.Ended) (sign false)
+    (late_key c) phase.Ended) (late_key c) (sign false)
 
 -- from there on nobody is to wake it
 abbrev pub unowed : State → ℕ → State
@@ -48,14 +48,14 @@ came_back (spot.Off by said) s t c = found s t c by said
 -- The lot once it has taken itself out, and whether others are left in its list. Then there is nothing to be stored,
 -- and nor is there for a pending writer, which takes its bit back outside.
 abbrev pub out_of_list : State → ℕ → Call → Machine
-out_of_list s t c = in_phase (given_up s.lot t (late_key c)) phase.Ended
+out_of_list s t c = in_phase (given_up s.lot t (late_key c)) (late_key c) phase.Ended
 
 abbrev pub others_left : State → ℕ → Call → Bool
 others_left s t c = is_left ((out_of_list s t c).queues (late_key c))
 
 abbrev pub quitted_as : State → ℕ → Call → Bool → State
 quitted_as s t c left = with_lot (with_call s t (hears c (seen.Took None left)))
-    (if left || is_pending c.core then stored (out_of_list s t c) (sign false) else out_of_list s t c)
+    (if left || is_pending c.core then stored (out_of_list s t c) (late_key c) (sign false) else out_of_list s t c)
 
 abbrev pub quitted : State → ℕ → Call → State
 quitted s t c = quitted_as s t c (others_left s t c)

@@ -12,12 +12,12 @@ use Rattle.parking_lot_machine_calls.specs.declared.seat.WakeResult.{WakeResult}
 use Rattle.parking_lot_machine_calls.specs.declared.open_call.Call.{Call}
 use Rattle.parking_lot_machine.specs.ActLaws.{Keeps}
 use Rattle.parking_lot_machine.specs.LateActs.{expired, found, quitted, returned}
-use Rattle.parking_lot_machine_calls.specs.LateCalls.{comes_late, is_back, sleeps_in_time}
+use Rattle.parking_lot_machine_calls.specs.LateCalls.{comes_late, is_back, late_key, sleeps_in_time}
 use Rattle.parking_lot_machine_calls.specs.LateRoles.{expiring, expiring_taken}
 use Rattle.parking_lot_machine.specs.Ranks.{Pays, late_cost, steps_left}
 use Rattle.parking_lot_machine.specs.RowFits.{FitsTogether}
 use Rattle.parking_lot_machine.specs.RowSteps.{IsMade}
-use Rattle.parking_lot_machine.specs.Rows.{State, call_at}
+use Rattle.parking_lot_machine.specs.Rows.{State, call_at, open_at}
 use Rattle.parking_lot_machine_calls.specs.CallRoles.{mark_of}
 
 -- by which step of the rules a moment passes: in its list, or taken
@@ -39,12 +39,12 @@ pub record Expires (t : ℕ) (c : Call) (s u : State) : Type 0 where
 pub record LateActsAreSteps : Type 0 where
   pub expires : (s : State) (t : ℕ) (c : Call) → sleeps_in_time c.core ≡ true → FitsTogether s → call_at s t ≡ Some c
       → Expires t c s (expired s t c)
-  -- one comes back that still stands in its list, where nobody is in a section
-  pub returns : (s : State) (t : ℕ) (c : Call) → comes_late c.core ≡ true → c.spot ≡ spot.Listed → s.lot.section ≡ None
-      → lot.Sound (returned s t c).lot → Keeps t c s (returned s t c)
+  -- one comes back that still stands in its list, where no section is open in its bucket
+  pub returns : (s : State) (t : ℕ) (c : Call) → comes_late c.core ≡ true → c.spot ≡ spot.Listed
+      → open_at s (late_key c) ≡ None → lot.Sound (returned s t c).lot → Keeps t c s (returned s t c)
   -- and one comes back that was taken
   pub finds : (s : State) (t : ℕ) (c : Call) (by : ℕ) (said : WakeResult) → comes_late c.core ≡ true
-      → c.spot ≡ spot.Off by said → s.lot.section ≡ None → lot.Sound (found s t c by said).lot
+      → c.spot ≡ spot.Off by said → open_at s (late_key c) ≡ None → lot.Sound (found s t c by said).lot
       → Keeps t c s (found s t c by said)
   pub quits : (s : State) (t : ℕ) (c : Call) → is_back c.core ≡ true → lot.Sound (quitted s t c).lot
       → Keeps t c s (quitted s t c)

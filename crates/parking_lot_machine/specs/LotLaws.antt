@@ -21,7 +21,7 @@ use Rattle.parking_lot_protocol.specs.declared.act.WordChange.{WordChange}
 use Rattle.parking_lot_machine_calls.specs.declared.seat.QueuePosition.TheVariants as spot
 use Rattle.parking_lot_machine_calls.specs.declared.open_call.Call.{Call}
 use Rattle.parking_lot_machine_calls.specs.declared.seat.Wakeup.{Wakeup}
-use Rattle.parking_lot_machine.specs.Rows.{State, call_at, is_by, taken_by}
+use Rattle.parking_lot_machine.specs.Rows.{State, call_at, is_by, open_at, taken_by}
 use Rattle.parking_lot_machine_calls.specs.Stances.{Doing, Joins, Takes, In, Asleep, stance, core_act}
 use Rattle.parking_lot_machine_calls.specs.StanceLaws.{Counts}
 use Rattle.parking_lot_core_model.specs.declared.parking.FilterOp.TheVariants.{Unpark}
@@ -47,8 +47,8 @@ pub record ActsKeepFits : Type 0 where
       → Keeps s t c (act.Exchange from to) (acts.exchanged s t c from to)
   pub adds : (s : State) (t : ℕ) (c : Call) (by : ℕ) → Keeps s t c (act.Add by) (acts.added s t c by)
   pub spins : (s : State) (t : ℕ) (c : Call) → Keeps s t c act.Spin (acts.spun s t c)
-  -- where no section is open one is entered
-  pub enters : (s : State) (t : ℕ) (c : Call) (k : ℕ) → s.lot.section ≡ None
+  -- where no section is open in its bucket one is entered
+  pub enters : (s : State) (t : ℕ) (c : Call) (k : ℕ) → open_at s (call_acts.key_of c k) ≡ None
       → Keeps s t c (act.Enter k) (acts.entered s t c k)
   -- to go to sleep
   pub checks : (s : State) (t : ℕ) (c : Call) → Keeps s t c (act.Section section.Check) (acts.checked s t c)
@@ -77,10 +77,10 @@ pub record ActsKeepFits : Type 0 where
       → LotFits (acts.begun s t c)
   pub ends : (s : State) (t : ℕ) (c : Call) (answer : CoreAnswer) → Keeps s t c (act.Done answer) (acts.answered s t c)
 
--- the thread is in the section that is open, of that key
+-- the thread is in a section of that key
 pub record IsInside (s : State) (t at : ℕ) : Type 0 where
   pub section : Section
-  pub there : s.lot.section ≡ Some section
+  pub there : open_at s at ≡ Some section
   pub own : section_of s.lot t ≡ Some section
   pub key : section.key ≡ at
 
@@ -90,10 +90,11 @@ pub record IsDue (s : State) (t : ℕ) (e : Wakeup) : Type 0 where
   pub call : Call
   pub there : call_at s e.thread ≡ Some call
   pub token : UnparkToken
+  pub key : ℕ
   pub sleep : Sleep
-  pub place : place_at s.lot.places e.thread ≡ Some (Taken token sleep false)
+  pub place : place_at s.lot.places e.thread ≡ Some (Taken token key sleep false)
   pub due : option_map_or (is_due e.mark) (place_at s.lot.places e.thread) false ≡ true
-  pub woken : place_at (changed_at roused s.lot e.thread).places e.thread ≡ Some (Taken token sleep true)
+  pub woken : place_at (changed_at roused s.lot e.thread).places e.thread ≡ Some (Taken token key sleep true)
   pub goes_on : resume_fault (changed_at roused s.lot e.thread) e.thread ≡ None
   pub runs : slice_set (changed_at roused s.lot e.thread).places e.thread (Some Running) ≡ slice_set s.lot.places
       e.thread (Some Running)
@@ -116,8 +117,8 @@ Asks s t c a = LotFits s × (call_at s t ≡ Some c) × (core_act c.core ≡ a)
 
 pub record LotNeverRefuses : Type 0 where
   -- only an open section keeps one from entering
-  pub enters : (s : State) (t : ℕ) (c : Call) (k : ℕ) → Asks s t c (act.Enter k) → s.lot.section ≡ None
-      → enter_fault s.lot t ≡ None
+  pub enters : (s : State) (t : ℕ) (c : Call) (k : ℕ) → Asks s t c (act.Enter k)
+      → open_at s (call_acts.key_of c k) ≡ None → enter_fault s.lot t (call_acts.key_of c k) ≡ None
   -- each step of a section comes where the section may make it
   pub checks : (s : State) (t : ℕ) (c : Call) → Asks s t c (act.Section section.Check)
       → step_fault may_check s.lot t ≡ None
@@ -184,7 +185,8 @@ pub record IsNew (s : State) : Type 0 where
   pub wakes : s.wakes ≡ []
   pub lists : (key : ℕ) → s.lot.queues key ≡ []
   pub runs : (t : ℕ) → t < length s.calls → place_at s.lot.places t ≡ Some Running
-  pub free : s.lot.section ≡ None
+  pub free : (b : ℕ) → s.lot.sections b ≡ None
+  pub outside : (t : ℕ) → s.lot.inside t ≡ None
 
 abbrev pub NewMachinesFit : Type 0
 NewMachinesFit = (s : State) → Sound s.lot → IsNew s → LotFits s × WakesFit s

@@ -2,6 +2,7 @@
 use Rattle.std.specs.Prelude.{◌≡◌, ℕ, ◌*◌, ◌&&◌, ◌||◌, ◌⊎◌, Bool, true, false, not, nat_lt, if◌then◌else◌, List, []}
 use Rattle.std.specs.Prelude.{◌∷◌, ◌++◌, length, replicate, Option, Some, None, is_some, is_none, slice_get, slice_set}
 use Rattle.std.specs.Option.{option_and_then, option_map, option_or}
+use Rattle.parking_lot_core_model.specs.Buckets.{buckets_for, threads_with}
 use Rattle.parking_lot_core_model.specs.Runs.{fresh}
 use Rattle.parking_lot_core_model.specs.declared.place.Place.TheVariants.{Running}
 use Rattle.parking_lot_protocol.specs.declared.act.Act.{Act}
@@ -97,15 +98,19 @@ call_for s t lock call =
       asked = call;
     }
 
--- a machine where nobody has done anything
-abbrev pub at_rest : ℕ → List LockKind → State
-at_rest threads kinds = record {
+-- a machine where nobody has done anything, with so many numbers of threads: one for each, or two
+abbrev pub at_rest : Bool → ℕ → List LockKind → State
+at_rest paired threads kinds = record {
   kinds = kinds;
   words = replicate (length kinds) 0;
   holds = replicate (threads * length kinds) (hold.Shares 0);
   calls = replicate threads None;
   wakes = [];
-  lot = record (fresh threads 0) { places = replicate threads (Some Running) };
+  lot = record (fresh threads 0) {
+    paired = paired;
+    places = replicate threads (Some Running);
+    buckets = buckets_for (threads_with paired threads);
+  };
 }
 
 -- whom a thread takes is off its list, and is to be woken by it

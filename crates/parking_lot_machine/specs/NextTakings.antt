@@ -16,8 +16,8 @@ use Rattle.parking_lot_machine.specs.Passes.{ArePassed, IsNext}
 abbrev pub NextTaken : (ℕ → FilterOp) → Machine → Machine → Result (Option Taking) LotFault → ℕ → Type 0
 NextTaken ask old new result key =
     ((nth : ℕ) × (w : Waiter) × IsNext ask (old.queues key) nth w × (result ≡ Ok (Some (taking_of old w)))
-    × (new ≡ taken (in_phase old (phase.Taking nth)) key nth))
-    ⊎ (ArePassed ask (old.queues key) (length (old.queues key)) × (result ≡ Ok None) × (new ≡ in_phase old phase.Ended))
+    × (new ≡ taken (in_phase old key (phase.Taking nth)) key nth))
+    ⊎ (ArePassed ask (old.queues key) (length (old.queues key)) × (result ≡ Ok None) × (new ≡ in_phase old key phase.Ended))
 
 abbrev pub NextsAreTaken : {F : Type 0} → (F → ParkToken → FilterOp → F → Type 0) → F → Type 0
 NextsAreTaken {F} gives filter =

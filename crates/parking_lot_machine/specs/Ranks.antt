@@ -1,7 +1,7 @@
 -- How many steps a thread still makes in its call, and all threads in theirs, where one of them is stepped until it
 -- can't move.
 use Rattle.std.specs.Prelude.{ℕ, ◌+◌, ◌-◌, ◌*◌, ◌≤◌, ◌==◌, ◌&&◌, not, Bool, false, if◌then◌else◌, length, Option, Some}
-use Rattle.std.specs.Prelude.{None, slice_set}
+use Rattle.std.specs.Prelude.{None, max, slice_set}
 use Rattle.std.specs.List.{sum_by}
 use Rattle.parking_lot_protocol.specs.declared.mutex_phase.Giving.{Giving}
 use Rattle.parking_lot_protocol.specs.declared.mutex_phase.MutexPhase.{MutexPhase}
@@ -26,31 +26,40 @@ use Rattle.parking_lot_machine_calls.specs.declared.late_rw.RwSleeper.TheVariant
 use Rattle.parking_lot_machine_calls.specs.declared.seat.Core.{Core}
 use Rattle.parking_lot_machine_calls.specs.declared.seat.Core.TheVariants as core
 use Rattle.parking_lot_machine_calls.specs.declared.open_call.Call.{Call}
-use Rattle.parking_lot_machine.specs.Rows.{State, word_at, call_at, first_key, inside}
+use Rattle.parking_lot_machine.specs.Rows.{State, word_at, call_at, entered_by, first_key, second_key}
 use Rattle.parking_lot_machine_calls.specs.Stances.{pending_from}
 use Rattle.parking_lot_rules.specs.Classes.{bit}
 
+-- Whether another thread is inside a section of the bucket of a lock's first key, and of its second, and shuts one out.
+pub record Shut : Type 0 where
+  pub first : Bool
+  pub second : Bool
+
 -- What counts of the machine for a thread's steps: nothing, where another thread is stepped, and all that it has seen
--- may be out of date; else the word of its lock, how many wait in the first list, and whether another thread is inside
--- a section and shuts it out.
+-- may be out of date; else the word of its lock, how many wait in the first list, and whether it is shut out of the
+-- lock's sections.
 pub data View : Type 0 where
   Unseen : View
-  Sees : (word first : ℕ) → (shut : Bool) → View
+  Sees : (word first : ℕ) → (shut : Shut) → View
 
 -- the word is surely that one
 abbrev pub is_at : View → ℕ → Bool
 is_at Unseen n = false
 is_at (Sees word first shut) n = word == n
 
--- it surely can enter a section
+-- it surely can enter a section of the first key, and of the second
 abbrev pub is_open : View → Bool
 is_open Unseen = false
-is_open (Sees word first shut) = not shut
+is_open (Sees word first shut) = not shut.first
+
+abbrev pub is_open2 : View → Bool
+is_open2 Unseen = false
+is_open2 (Sees word first shut) = not shut.second
 
 -- how many it may find in the first list, among n threads
 abbrev pub may_find : ℕ → View → ℕ
 may_find n Unseen = n
-may_find n (Sees word first shut) = if shut then n else first
+may_find n (Sees word first shut) = if shut.first then n else first
 
 -- a wake, and all steps of the one that is woken
 abbrev pub wake : ℕ
@@ -100,7 +109,7 @@ mutex_steps v phase = 1
 -- A pending writer waits for the readers in the second list, as others wait in the first. The rounds that it has left
 -- it keeps for when it is woken.
 abbrev pub drain_parks : View → ℕ
-drain_parks v = if is_open v then 4 else 9
+drain_parks v = if is_open2 v then 4 else 9
 
 abbrev pub drains : View → ℕ → ℕ
 drains v rounds = 2 * rounds + 1 + drain_parks v
@@ -113,13 +122,14 @@ comes_after v want.Exclusive = 1 + drains v 10
 -- the most that parking takes, where it is in vain
 abbrev pub vain : LockMode → ℕ
 vain (want.Shared recursive) = 30
-vain want.Exclusive = 55
+vain want.Exclusive = 56
 
 abbrev pub rw_parks : View → LockMode → ℕ
 rw_parks v want = if is_open v then 4 else vain want
 
+-- it either parks, or is admitted
 abbrev pub rw_asks : View → LockMode → ℕ → ℕ
-rw_asks v want rounds = 2 * rounds + 1 + rw_parks v want + comes_after v want
+rw_asks v want rounds = 2 * rounds + 1 + max (rw_parks v want) (comes_after v want)
 
 abbrev pub rw_ends : View → AfterWake → ℕ
 rw_ends v rest.FreedShared = 1
@@ -141,6 +151,8 @@ abbrev pub keeps_waiting : View → Bool
 keeps_waiting Unseen = false
 keeps_waiting (Sees word first shut) = of_rw.has_readers word && of_rw.is_writer_parked word
 
+-- One that is before a section of the second key may be kept there, while it could enter one of the first: so what comes
+-- behind is counted as if nothing were known.
 abbrev pub rw_steps : ℕ → View → RwPhase → ℕ
 rw_steps n v (r.Loads a) = 1 + rw_asks v a.want a.rounds
 rw_steps n v (r.Admits a word) = if is_at v word then 1 + comes_after v a.want else 1 + rw_asks v a.want a.rounds
@@ -164,10 +176,10 @@ rw_steps n v (r.DrainRests rounds) = 1 + 2 * rounds
 rw_steps n v (r.DrainSleeps rounds) = 2 * rounds
 rw_steps n v (r.TryLoads want) = 3
 rw_steps n v (r.TryAdmits want word left) = if is_at v word then 2 else 3
-rw_steps n v (r.BumpLoads want) = scan n v + wake + 9 + rw_asks v want 10
+rw_steps n v (r.BumpLoads want) = scan n v + wake + 9 + rw_asks Unseen want 10
 rw_steps n v (r.Relocks want) = 1 + rw_asks v want 10
-rw_steps n v (r.Unshares rest) = wake + 6 + rw_ends v rest
-rw_steps n v (r.EnterWriterWakeSection rest) = wake + 5 + rw_ends v rest
+rw_steps n v (r.Unshares rest) = wake + 6 + rw_ends Unseen rest
+rw_steps n v (r.EnterWriterWakeSection rest) = wake + 5 + rw_ends Unseen rest
 rw_steps n v (r.TakeWriter rest) = wake + 4 + rw_ends v rest
 rw_steps n v (r.ClearWriterParked rest taken) = wake * bit taken + 3 + rw_ends v rest
 rw_steps n v (r.LeaveWriterWakeSection rest taken) = wake * bit taken + 2 + rw_ends v rest
@@ -256,13 +268,19 @@ abbrev pub far_steps : ℕ → Option Call → ℕ
 far_steps n None = 0
 far_steps n (Some c) = core_steps n Unseen c.core
 
--- whether a thread finds another inside a section
+-- whether a thread finds another inside a bucket
 abbrev pub is_shut_to : ℕ → Option ℕ → Bool
 is_shut_to t None = false
 is_shut_to t (Some u) = not (u == t)
 
+abbrev pub shut_of : State → ℕ → Call → Shut
+shut_of s t c = record {
+  first = is_shut_to t (entered_by s (first_key c.lock));
+  second = is_shut_to t (entered_by s (second_key c.lock));
+}
+
 abbrev pub view_of : State → ℕ → Call → View
-view_of s t c = Sees (word_at s c.lock) (length (s.lot.queues (first_key c.lock))) (is_shut_to t (inside s))
+view_of s t c = Sees (word_at s c.lock) (length (s.lot.queues (first_key c.lock))) (shut_of s t c)
 
 abbrev pub own_steps : State → ℕ → Option Call → ℕ
 own_steps s t None = 0

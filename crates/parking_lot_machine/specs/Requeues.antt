@@ -25,7 +25,7 @@ use Rattle.parking_lot_machine.specs.SoundLaws.{IsStepAt}
 use Rattle.parking_lot_machine.specs.Ranks.{steps_left}
 use Rattle.parking_lot_machine.specs.RowActs.{with_call, with_lot, with_word}
 use Rattle.parking_lot_machine.specs.RowFits.{FitsTogether}
-use Rattle.parking_lot_machine.specs.Rows.{State, call_at, first_key, lock_at, mutex_at, hold_at, word_at}
+use Rattle.parking_lot_machine.specs.Rows.{State, call_at, first_key, lock_at, mutex_at, hold_at, open_at, word_at}
 use Rattle.parking_lot_machine_calls.specs.CallRoles.{owns_mutex}
 
 -- BY THE RULES
@@ -110,17 +110,17 @@ retrying_call lock timed =
 -- the lot once a thread has joined a list, in a section of its own
 abbrev pub lot_with : Machine → ℕ → ℕ → Machine
 lot_with l v key =
-    closed (joined (in_phase (in_phase (opened l (Some v) key) phase.Valid) phase.Joined) v key (record { 0 = 0 })
-    false) false
+    closed (joined (in_phase (in_phase (opened l (Some v) key) key phase.Valid) key phase.Joined) v key
+    (record { 0 = 0 }) false) key false
 
 -- the lot refuses none of its steps
 pub record MayJoin (l : Machine) (v key : ℕ) : Type 0 where
-  pub enters : enter_fault l v ≡ None
+  pub enters : enter_fault l v key ≡ None
   pub checks : step_fault may_check (opened l (Some v) key) v ≡ None
-  pub joins : step_fault may_join (in_phase (opened l (Some v) key) phase.Valid) v ≡ None
+  pub joins : step_fault may_join (in_phase (opened l (Some v) key) key phase.Valid) v ≡ None
   pub leaves : step_fault any_phase
-      (joined (in_phase (in_phase (opened l (Some v) key) phase.Valid) phase.Joined) v key (record { 0 = 0 }) false) v
-      ≡ None
+      (joined (in_phase (in_phase (opened l (Some v) key) key phase.Valid) key phase.Joined) v key (record { 0 = 0 })
+      false) v ≡ None
 
 -- A thread that was in no call sleeps at the end of a mutex's list, as if it had asked for the mutex and gone to sleep;
 -- the parked bit is set.
@@ -156,9 +156,10 @@ retries_at lock None = false
 retries_at lock (Some c) = c.lock == lock && core_retries c.core
 
 -- Whether a thread may be woken to try again, and whether it may be taken into the list: it may ask for the mutex, no
--- section is open, and for the list the mutex is locked, or one at it is about to try again.
+-- section is open in the bucket of the mutex's list, and for the list the mutex is locked, or one at it is about to try
+-- again.
 abbrev pub may_rouse_in : State → ℕ → ℕ → Bool
-may_rouse_in s v lock = may_begin s v lock call.Lock && not (is_some s.lot.section)
+may_rouse_in s v lock = may_begin s v lock call.Lock && not (is_some (open_at s (first_key lock)))
 
 abbrev pub may_take_in : State → ℕ → ℕ → Bool
 may_take_in s v lock = may_rouse_in s v lock && (word_at s lock % 2 == 1 || list_any (retries_at lock) s.calls)
@@ -181,7 +182,7 @@ pub record IsTakenIn (v lock : ℕ) (timed : Bool) (s u : State) : Type 0 where
   pub here : mutex_at u lock ≡ filed (mutex_at s lock) v
   pub away : slice_get (mutex_at s lock).roles v ≡ Some away
   pub elsewhere : (i : ℕ) → i ≢ lock → lock_at u i ≡ lock_at s i
-  pub free : u.lot.section ≡ None
+  pub free : open_at u (first_key lock) ≡ None
   pub attended : IsAttended u lock
   pub comes : ByAny s v lock (λ by o. MayCome (mutex_at s lock) by o)
   pub runs : (mutex_at s lock).word.locked ≡ 1
@@ -196,7 +197,7 @@ pub record IsRousedIn (v lock : ℕ) (timed : Bool) (s u : State) : Type 0 where
   pub here : mutex_at u lock ≡ roused (mutex_at s lock) v
   pub away : slice_get (mutex_at s lock).roles v ≡ Some away
   pub elsewhere : (i : ℕ) → i ≢ lock → lock_at u i ≡ lock_at s i
-  pub free : u.lot.section ≡ None
+  pub free : open_at u (first_key lock) ≡ None
   pub attended : IsAttended u lock
   pub comes : ByAny s v lock (λ by o. MayCome (mutex_at s lock) by o)
   pub runs : ByAny s v lock (λ by o. Runs (mutex_at s lock) (pull_run by o v []) (mutex_at u lock))

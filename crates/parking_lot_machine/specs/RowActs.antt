@@ -19,7 +19,7 @@ use Rattle.parking_lot_machine_calls.specs.declared.seat.WakeResult.TheVariants 
 use Rattle.parking_lot_machine_calls.specs.declared.seat.QueuePosition.TheVariants as spot
 use Rattle.parking_lot_machine_calls.specs.declared.open_call.Call.{Call}
 use Rattle.parking_lot_machine.specs.Rows.{State, word_at, call_at, cell, is_by}
-use Rattle.parking_lot_machine_calls.specs.Stances.{stance, sign, core_tells}
+use Rattle.parking_lot_machine_calls.specs.Stances.{Stance, Out, In, Asleep, stance, sign, core_tells}
 use Rattle.parking_lot_machine_calls.specs.CallActs.{hears, hold_after, joins, key_of, off_list, settled, told_of}
 
 -- PARTS OF THE MACHINE THAT ACTS CHANGE
@@ -41,6 +41,15 @@ takes_off s v t = record s { calls = slice_set s.calls v (option_map (off_list t
 
 -- THE ACTS, OF A THREAD t IN A CALL c
 
+-- the list where it is in a section, or asleep
+abbrev pub list_in : Stance → ℕ
+list_in Out = 0
+list_in (In k how) = k
+list_in (Asleep k token) = k
+
+abbrev pub key_in : Call → ℕ
+key_in c = key_of c (list_in (stance c.core))
+
 abbrev pub loaded : State → ℕ → Call → State
 loaded s t c = with_call s t (hears c (seen.Word (word_at s c.lock)))
 
@@ -56,7 +65,7 @@ added s t c by = with_word (with_call s t (hears c (seen.Before (word_at s c.loc
 abbrev pub masked : State → ℕ → Call → ℕ → State
 masked s t c keep =
     with_word (with_lot (settles (with_call s t (hears c (seen.Before (word_at s c.lock)))) t told.TryAgain)
-    (stored s.lot (sign false))) c.lock (bit_and (word_at s c.lock) keep)
+    (stored s.lot (key_in c) (sign false))) c.lock (bit_and (word_at s c.lock) keep)
 
 abbrev pub spun : State → ℕ → Call → State
 spun s t c = with_call s t (hears c (seen.Spun true))
@@ -66,12 +75,12 @@ entered s t c k = with_lot (with_call s t (hears c seen.Entered)) (opened s.lot 
 
 abbrev pub checked : State → ℕ → Call → State
 checked s t c = with_lot (loaded s t c)
-    (in_phase s.lot (if joins (stance (hears c (seen.Word (word_at s c.lock))).core) then phase.Valid else
+    (in_phase s.lot (key_in c) (if joins (stance (hears c (seen.Word (word_at s c.lock))).core) then phase.Valid else
     phase.Invalid))
 
 abbrev pub appended : State → ℕ → Call → ℕ → ParkToken → State
 appended s t c key token = with_lot (with_call s t (record (hears c seen.Made) { spot = spot.Listed }))
-    (joined (in_phase s.lot phase.Joined) t key token false)
+    (joined (in_phase s.lot key phase.Joined) t key token false)
 
 -- it takes the waiter w at an index of the key's list, or nobody
 abbrev pub took : State → ℕ → Call → ℕ → ℕ → Waiter → State
@@ -80,21 +89,21 @@ took s t c key nth w =
     (hears c (seen.Took (Some w.token) (is_left (remove (s.lot.queues key) nth))))) {
       wakes = s.wakes ++
           record { by = t; thread = w.thread; mark = option_map_or mark_of (place_at s.lot.places w.thread) 0 } ∷ [];
-      lot = taken (in_phase s.lot (phase.Taking nth)) key nth;
+      lot = taken (in_phase s.lot key (phase.Taking nth)) key nth;
     }
 
 abbrev pub took_nobody : State → ℕ → Call → ℕ → State
 took_nobody s t c key = with_lot (with_call s t (hears c (seen.Took None (is_left (s.lot.queues key)))))
-    (in_phase s.lot phase.Ended)
+    (in_phase s.lot key phase.Ended)
 
 abbrev pub told_all : State → ℕ → Call → WordChange → Bool → State
 told_all s t c change fair =
     let d = hears c (seen.Stored fair) in
-    with_word (with_lot (settles (with_call s t d) t (told_of (core_tells d.core))) (stored s.lot (core_tells d.core)))
+    with_word (with_lot (settles (with_call s t d) t (told_of (core_tells d.core))) (stored s.lot (key_in c) (core_tells d.core)))
     c.lock (change_of change (word_at s c.lock))
 
 abbrev pub left : State → ℕ → Call → State
-left s t c = with_lot (with_call s t (hears c seen.Made)) (closed s.lot false)
+left s t c = with_lot (with_call s t (hears c seen.Made)) (closed s.lot (key_in c) false)
 
 -- it wakes the first whom it is to wake, which is in the call d, with that token
 abbrev pub woke : State → ℕ → Call → ℕ → Call → UnparkToken → State

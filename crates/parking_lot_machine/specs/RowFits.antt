@@ -1,5 +1,5 @@
 -- What holds of the machine at every moment.
-use Rattle.std.specs.Prelude.{◌≡◌, ◌≢◌, ℕ, ◌+◌, ◌-◌, ◌*◌, ◌<◌, ◌≤◌, ◌^◌, ◌⊎◌, Bool, true, false, count_by, List, []}
+use Rattle.std.specs.Prelude.{◌≡◌, ℕ, ◌+◌, ◌-◌, ◌*◌, ◌<◌, ◌≤◌, ◌^◌, ◌⊎◌, Bool, true, false, count_by, List, []}
 use Rattle.std.specs.Prelude.{length, Option, Some, None, slice_get}
 use Rattle.std.specs.Option.{option_map_or}
 use Rattle.parking_lot_core_model.specs.declared.parking.ParkToken.{ParkToken}
@@ -14,6 +14,8 @@ use Rattle.parking_lot_core_model.specs.declared.place.Waiter.{Waiter}
 use Rattle.parking_lot_core_model.specs.Places.{place_at, mark_of, may_take, may_store, passed_of}
 use Rattle.parking_lot_core_model.specs.Results.{is_left}
 use Rattle.parking_lot_core_model.specs.Sound as lot
+use Rattle.parking_lot_core_model.specs.Machine.{Machine}
+use Rattle.parking_lot_core_model.specs.Machine as lot_machine
 use Rattle.parking_lot_rules.specs.Any.{AnySound, any_inside}
 use Rattle.parking_lot_rules.specs.Family.{SoundFamilyOf}
 use Rattle.parking_lot_protocol.specs.RwRules as of_rw
@@ -42,7 +44,7 @@ use Rattle.parking_lot_machine_calls.specs.declared.seat.Core.TheVariants as cor
 use Rattle.parking_lot_machine_calls.specs.declared.open_call.Call.{Call}
 use Rattle.parking_lot_machine_calls.specs.declared.seat.Wakeup.{Wakeup}
 use Rattle.parking_lot_machine_calls.specs.Kinds.{AsMutex, manner_of, recursive_in}
-use Rattle.parking_lot_machine.specs.Rows.{State, word_at, hold_at, call_at, taken_by, family, one_bucket}
+use Rattle.parking_lot_machine.specs.Rows.{State, word_at, hold_at, call_at, taken_by, open_at, bucket, family}
 use Rattle.parking_lot_machine_calls.specs.Stances.{Doing, Looks, TurnsBack, Joins, Joined, Takes, Stores, Tells}
 use Rattle.parking_lot_machine_calls.specs.Stances.{Stance, Out, In, Asleep, stance, taken_count, core_act}
 use Rattle.parking_lot_machine_calls.specs.Stances.{sleeper_asleep}
@@ -87,30 +89,31 @@ SaidIn section said = ((section.phase ≡ phase.Stored) × (said ≡ told_of sec
     ⊎ ((may_store section.phase ≡ true) × (said ≡ told.Nothing))
 
 -- a sleeper stands in its list, or was taken by a section that is open or by one that is closed
-abbrev pub IsAt : QueuePosition → Option Place → Option Section → ℕ → Type 0
-IsAt spot.Listed place section key = WaitsIn place key
-IsAt (spot.Off by said) place section key =
+abbrev pub IsAt : QueuePosition → Option Place → (ℕ → Option Section) → ℕ → Type 0
+IsAt spot.Listed place sections key = WaitsIn place key
+IsAt (spot.Off by said) place sections key =
     (sleep : Sleep) × (sleep.late ≡ false)
-    × (((place ≡ Some (Held sleep)) × (opened : Section) × (section ≡ Some opened) × (opened.thread ≡ Some by)
-    × SaidIn opened said)
-    ⊎ ((token : UnparkToken) × (place ≡ Some (Taken token sleep false)) × (said ≡ told_of token)))
+    × (((place ≡ Some (Held key sleep)) × (opened : Section) × (sections key ≡ Some opened)
+    × (opened.thread ≡ Some by) × SaidIn opened said)
+    ⊎ ((token : UnparkToken) × (place ≡ Some (Taken token key sleep false)) × (said ≡ told_of token)))
 
--- thread t isn't the one whose section is open
-abbrev pub IsOutside : ℕ → Option Section → Type 0
-IsOutside t section = (opened : Section) → section ≡ Some opened → opened.thread ≢ Some t
-
--- its stance at lock j fits the lot
-abbrev pub Stands : ℕ → ℕ → Stance → QueuePosition → Option Place → Option Section → Type 0
-Stands t j Out at place section = (place ≡ Some Running) × IsOutside t section
-Stands t j (In k how) at place section =
-    (opened : Section) × (section ≡ Some opened) × (opened.thread ≡ Some t) × (opened.key ≡ 2 * j + k)
-    × HasCome how opened.phase opened.token × PlaceWhile how at place (2 * j + k)
-Stands t j (Asleep k token) at place section = IsAt at place section (2 * j + k) × IsOutside t section
+-- Its stance at lock j fits the lot: its place there, the key of the section that it is in, and the section that is open
+-- in the bucket of each key.
+abbrev pub Stands : ℕ → ℕ → Stance → QueuePosition → Option Place → Option ℕ → (ℕ → Option Section) → Type 0
+Stands t j Out at place inside sections = (place ≡ Some Running) × (inside ≡ None)
+Stands t j (In k how) at place inside sections =
+    (opened : Section) × (sections (2 * j + k) ≡ Some opened) × (opened.thread ≡ Some t) × (opened.key ≡ 2 * j + k)
+    × HasCome how opened.phase opened.token × PlaceWhile how at place (2 * j + k) × (inside ≡ Some (2 * j + k))
+Stands t j (Asleep k token) at place inside sections = IsAt at place sections (2 * j + k) × (inside ≡ None)
 
 -- one in no call
-abbrev pub Seated : ℕ → Option Call → Option Place → Option Section → Type 0
-Seated t None place section = (place ≡ Some Running) × IsOutside t section
-Seated t (Some c) place section = Stands t c.lock (stance c.core) c.spot place section
+abbrev pub Seated : ℕ → Option Call → Option Place → Option ℕ → (ℕ → Option Section) → Type 0
+Seated t None place inside sections = (place ≡ Some Running) × (inside ≡ None)
+Seated t (Some c) place inside sections = Stands t c.lock (stance c.core) c.spot place inside sections
+
+-- a thread in that call, by what the lot says of it
+abbrev pub SeatedIn : Machine → ℕ → Option Call → Type 0
+SeatedIn m t call = Seated t call (place_at m.places t) (m.inside t) (lot_machine.open_at m)
 
 -- a waiter with that token in the k-th list of a lock
 abbrev pub Awaits : ℕ → ParkToken → Stance → Type 0
@@ -342,11 +345,18 @@ abbrev pub WakesSome : Core → Type 0
 WakesSome c = core_act c ≡ act.Section section.Wake → 1 ≤ taken_count c
 
 -- The lot's side.
+-- whose taker has told it: that one is in no section any more
+abbrev pub TakersAreOut : State → Machine → Type 0
+TakersAreOut s m =
+    (v k : ℕ) (c : Call) (token : ParkToken) (by : ℕ) (said : WakeResult) (x : UnparkToken) (key : ℕ) (sleep : Sleep)
+    → call_at s v ≡ Some c → stance c.core ≡ Asleep k token → c.spot ≡ spot.Off by said
+    → place_at m.places v ≡ Some (Taken x key sleep false) → m.inside by ≡ None
+
 pub record LotFits (s : State) : Type 0 where
   -- the lot is sound, and each thread's place in it is the one of its stance
   pub sound : lot.Sound s.lot
-  pub seated : (t : ℕ) → t < length s.calls → Seated t (call_at s t) (place_at s.lot.places t) s.lot.section
-  pub opened : (section : Section) → s.lot.section ≡ Some section → (t : ℕ) × (section.thread ≡ Some t)
+  pub seated : (t : ℕ) → t < length s.calls → SeatedIn s.lot t (call_at s t)
+  pub opened : (b : ℕ) (section : Section) → s.lot.sections b ≡ Some section → (t : ℕ) × (section.thread ≡ Some t)
       × (t < length s.calls)
   -- who waits in a lock's list is in a call there
   pub waits : (j k n : ℕ) (w : Waiter) → k < 2 → slice_get (s.lot.queues (2 * j + k)) n ≡ Some w
@@ -355,6 +365,7 @@ pub record LotFits (s : State) : Type 0 where
   -- who sleeps off its list is still to be woken by its taker
   pub owed : (t : ℕ) (c : Call) (key : ℕ) (token : ParkToken) (by : ℕ) (said : WakeResult) → call_at s t ≡ Some c
       → stance c.core ≡ Asleep key token → c.spot ≡ spot.Off by said → IsOwed s.wakes by t
+  pub outside : TakersAreOut s s.lot
   -- each is taken once, and its taker counts it
   pub woken : (n : ℕ) (e : Wakeup) → slice_get s.wakes n ≡ Some e → IsTaken s e
   pub once : (n m : ℕ) (e f : Wakeup) → slice_get s.wakes n ≡ Some e → slice_get s.wakes m ≡ Some f
@@ -395,15 +406,15 @@ pub record RulesFit (s : State) : Type 0 where
   -- each word has the bits of its kind
   pub bits : (i : ℕ) → manner_of (slice_get s.kinds i) ≡ Some AsMutex → word_at s i < 4
   -- the locks are sound
-  pub sound : SoundFamilyOf AnySound any_inside one_bucket (family s)
+  pub sound : SoundFamilyOf AnySound any_inside (bucket s) (family s)
   -- a call that is kept has begun, and has few rounds left to spin
   pub begun : (t : ℕ) (c : Call) → call_at s t ≡ Some c → IsUnderWay c.core
 
--- Whom the section that is open has passed: those that its thread passes at its sum so far.
+-- Whom a section that is open has passed: those that its thread passes at its sum so far.
 abbrev pub PassesFit : State → Type 0
 PassesFit s =
     (t : ℕ) (c : Call) (k : ℕ) (o : Section) → call_at s t ≡ Some c → stance c.core ≡ In k Takes
-    → s.lot.section ≡ Some o → ArePassed (asks (core_act c.core)) (s.lot.queues (2 * c.lock + k))
+    → open_at s (2 * c.lock + k) ≡ Some o → ArePassed (asks (core_act c.core)) (s.lot.queues (2 * c.lock + k))
     (passed_of o.phase)
 
 pub record FitsTogether (s : State) : Type 0 where

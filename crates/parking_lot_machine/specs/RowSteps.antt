@@ -23,17 +23,17 @@ use Rattle.parking_lot_machine_calls.specs.declared.seat.Core.{Core}
 use Rattle.parking_lot_machine_calls.specs.declared.seat.Core.TheVariants as core
 use Rattle.parking_lot_machine_calls.specs.declared.open_call.Call.{Call}
 use Rattle.parking_lot_machine.specs.LateActs.{unowed}
-use Rattle.parking_lot_machine.specs.Rows.{State, lock_at, inside, family, one_bucket, taken_by}
+use Rattle.parking_lot_machine.specs.Rows.{State, lock_at, entered_in, family, bucket, taken_by}
 use Rattle.parking_lot_machine_calls.specs.CallRoles.{first_of_all}
 
 -- nothing of the locks changes
 pub record IsQuiet (s u : State) : Type 0 where
   pub locks : (i : ℕ) → lock_at u i ≡ lock_at s i
-  pub inside : inside u ≡ inside s
+  pub entered : (b : ℕ) → entered_in u b ≡ entered_in s b
 
 -- thread t makes a step of the rules at lock j, and nothing changes at the others
 abbrev pub IsMade : ℕ → ℕ → AnyStep → State → State → Type 0
-IsMade j t step s u = StepOf (any_rules (recursive_in s.kinds)) one_bucket j t step (family s) (family u)
+IsMade j t step s u = StepOf (any_rules (recursive_in s.kinds)) (bucket s) j t step (family s) (family u)
 
 -- the one where somebody is to be woken, and the other where all have gone on by themselves
 abbrev pub IfAny : List ℕ → Type 0 → Type 0 → Type 0

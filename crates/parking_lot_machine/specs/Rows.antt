@@ -5,6 +5,7 @@ use Rattle.std.specs.List.{range_with_len}
 use Rattle.std.specs.Option.{option_and_then, option_map_or}
 use Rattle.parking_lot_core_model.specs.declared.place.Section.{Section}
 use Rattle.parking_lot_core_model.specs.Machine.{Machine, Parts, machine, threads_of}
+use Rattle.parking_lot_core_model.specs.Machine as lot
 use Rattle.parking_lot_rules.specs.Roles.{Idle, Role}
 use Rattle.parking_lot_rules.specs.Clauses.{word_of}
 use Rattle.parking_lot_rules.specs.Lock.{Lock}
@@ -29,7 +30,7 @@ pub record State : Type 0 where
   pub calls : List (Option Call)
   -- whom threads have taken off a list and are still to wake, oldest first
   pub wakes : List Wakeup
-  -- the lists, the threads' places there, and the section that is open
+  -- the lists, the threads' places there, and the sections that are open
   pub lot : Machine
 
 -- what is kept of a machine, and the machine that it is
@@ -142,17 +143,21 @@ any_lock k s i = lock_as (manner_of k) s i
 abbrev pub lock_at : State → ℕ → AnyLock
 lock_at s i = any_lock (slice_get s.kinds i) s i
 
--- The section that is open in the bucket of a key, where one is. All keys are in one bucket.
+-- The section that is open in the bucket of a key, where one is.
 abbrev pub open_at : State → ℕ → Option Section
-open_at s key = s.lot.section
+open_at s key = lot.open_at s.lot key
 
--- who is in the section that is open
-abbrev pub inside : State → Option ℕ
-inside s = option_and_then (λ section. section.thread) s.lot.section
+-- who has entered the bucket of a key
+abbrev pub entered_by : State → ℕ → Option ℕ
+entered_by s key = lot.entered_by s.lot key
+
+-- the bucket of a key, and who has entered a bucket
+abbrev pub bucket : State → ℕ → ℕ
+bucket s key = lot.bucket_of s.lot key
+
+abbrev pub entered_in : State → ℕ → Option ℕ
+entered_in s b = option_and_then (λ section. section.thread) (s.lot.sections b)
 
 -- The locks of the rules.
-abbrev pub one_bucket : ℕ → ℕ
-one_bucket key = 0
-
 abbrev pub family : State → Family AnyLock
-family s = record { locks = lock_at s; entered = λ b. if b == 0 then inside s else None }
+family s = record { locks = lock_at s; entered = entered_in s }

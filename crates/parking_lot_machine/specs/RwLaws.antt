@@ -31,7 +31,6 @@ use Rattle.parking_lot_machine.specs.RowFits.{Asks, rw_prepared, rw_keeps, rw_kn
 use Rattle.parking_lot_rules.specs.Roles as rules
 use Rattle.parking_lot_core_model.specs.Results.{is_left}
 use Rattle.parking_lot_core_model.specs.declared.parking.UnparkToken.{UnparkToken}
-use Rattle.parking_lot_machine.specs.Rows.{one_bucket}
 use Rattle.parking_lot_machine_calls.specs.CallRoles.{mark_of, owned_of, rw_spot}
 use Rattle.parking_lot_machine_calls.specs.CallActs.{told_of, rw_hold_after, settled_spot}
 use Rattle.parking_lot_machine_calls.specs.Stances as stance
@@ -39,7 +38,7 @@ use Rattle.parking_lot_machine_calls.specs.Stances.{rw_stance, rw_taken, Stance,
 use Rattle.parking_lot_protocol.specs.declared.rw_phase.RwPhase.TheVariants as r
 use Rattle.parking_lot_protocol.specs.declared.act.CoreAnswer.{CoreAnswer}
 use Rattle.parking_lot_core_model.specs.declared.place.Waiter.{Waiter}
-use Rattle.parking_lot_rules.specs.Family.{Family, SoundFamilyOf, Crossing, Comes, Goes, First, Second, crossing}
+use Rattle.parking_lot_rules.specs.Family.{Family, SoundFamilyOf, Crossing, Comes, Goes, First, Second, crossing, key}
 use Rattle.parking_lot_rules.specs.Family as crossings
 use Rattle.parking_lot_rules.specs.Any.{AnyLock, Rw, AnySound, any_inside}
 use Rattle.parking_lot_protocol.specs.declared.act.SectionAct.TheVariants.{Leave}
@@ -312,10 +311,12 @@ pub record ActsCross : Type 0 where
   pub second : (n : ℕ) (spot : QueuePosition) (us : List ℕ) (p : RwPhase)
       → weight Inside2 (role n spot us p) ≡ in_second (rw_stance p)
 
--- where nobody has entered the bucket, nobody is inside a section of a lock
+-- where nobody has entered the bucket of a key, nobody is inside a section of the key
 abbrev pub FreeSectionsAreEmpty : Type 0
-FreeSectionsAreEmpty = (f : Family AnyLock) (i : ℕ) (l : Lock) → SoundFamilyOf AnySound any_inside one_bucket f
-    → f.entered 0 ≡ None → f.locks i ≡ Rw l → NobodyIs Inside1 l.roles × NobodyIs Inside2 l.roles
+FreeSectionsAreEmpty = (bucket : ℕ → ℕ) (f : Family AnyLock) (i : ℕ) (l : Lock)
+    → SoundFamilyOf AnySound any_inside bucket f → f.locks i ≡ Rw l
+    → (f.entered (bucket (key i First)) ≡ None → NobodyIs Inside1 l.roles)
+    × (f.entered (bucket (key i Second)) ≡ None → NobodyIs Inside2 l.roles)
 
 -- What one that takes waiters learns of the lists as they are after that: whether some are left, and that there was
 -- none to take.

@@ -25,15 +25,16 @@ use Rattle.parking_lot_machine.specs.ActLaws.{Keeps}
 pub record IsDue (s : State) (t : ℕ) (e : Wakeup) (d : Call) (token : UnparkToken) : Type 0 where
   pub first : slice_get s.wakes (position_or_len (is_by t) s.wakes) ≡ Some e
   pub there : call_at s e.thread ≡ Some d
+  pub key : ℕ
   pub sleep : Sleep
-  pub place : place_at s.lot.places e.thread ≡ Some (Taken token sleep false)
+  pub place : place_at s.lot.places e.thread ≡ Some (Taken token key sleep false)
   pub late : sleep.late ≡ false
 
 -- One that was taken in time is woken, and goes on: neither of the lot's two calls is refused, and it has its token.
-pub record GoesOn (m : Machine) (v : ℕ) (token : UnparkToken) (sleep : Sleep) : Type 0 where
+pub record GoesOn (m : Machine) (v : ℕ) (token : UnparkToken) (key : ℕ) (sleep : Sleep) : Type 0 where
   pub due : option_map_or (is_due sleep.mark) (place_at m.places v) false ≡ true
   pub free : resume_fault (changed_at roused m v) v ≡ None
-  pub place : place_at (changed_at roused m v).places v ≡ Some (Taken token sleep true)
+  pub place : place_at (changed_at roused m v).places v ≡ Some (Taken token key sleep true)
   pub runs : slice_set (changed_at roused m v).places v (Some Running) ≡ slice_set m.places v (Some Running)
 
 pub record TellsAreSteps : Type 0 where
@@ -54,5 +55,5 @@ pub record TellsAreSteps : Type 0 where
   -- where all of them have gone on by themselves it wakes nobody
   pub nobody : (s : State) (t : ℕ) (c : Call) → core_act c.core ≡ act.Section section.Wake → taken_by s.wakes t ≡ []
       → Keeps t c s (woke_nobody s t c)
-  pub goes_on : (m : Machine) (v : ℕ) (token : UnparkToken) (sleep : Sleep)
-      → place_at m.places v ≡ Some (Taken token sleep false) → sleep.late ≡ false → GoesOn m v token sleep
+  pub goes_on : (m : Machine) (v : ℕ) (token : UnparkToken) (key : ℕ) (sleep : Sleep)
+      → place_at m.places v ≡ Some (Taken token key sleep false) → sleep.late ≡ false → GoesOn m v token key sleep

@@ -13,7 +13,7 @@ ghost use Rattle.parking_lot_protocol.specs.declared.act.SectionAct.TheVariants 
 ghost use Rattle.parking_lot_protocol.specs.declared.act.CoreAnswer.{CoreAnswer};
 ghost use Rattle.parking_lot_protocol.specs.declared.act.WordChange.{WordChange};
 ghost use Rattle.parking_lot_machine.specs.ActLaws.{MayBegin};
-ghost use Rattle.parking_lot_machine.specs.Rows.{call_at, is_by, state, taken_by, word_at};
+ghost use Rattle.parking_lot_machine.specs.Rows.{call_at, is_by, open_at, state, taken_by, word_at};
 ghost use Rattle.parking_lot_machine_calls.specs.Stances.{In, Joins, Takes, core_act, stance};
 ghost use Rattle.parking_lot_machine.specs.Machines.{IsTakenFrom, IsWoken, owes_to, takes_off_by};
 ghost use Rattle.parking_lot_machine.specs.TellLaws.{IsDue};
@@ -186,11 +186,11 @@ impl<A: Allocator> RowMachine<A> {
         self.calls[thread] = Some(call.told(ActResult::Spun(true)));
     }
 
-    /// It enters a section, where nobody is in one.
+    /// It enters a section, where nobody is in one of the same bucket.
     pub(crate) fn enter(&mut self, thread: usize, call: Call, which: u8)
         requires here { call_at (state self.old) thread ≡ Some call }
         requires asked { core_act call.core ≡ act.Enter which }
-        requires free { (state self.old).lot.section ≡ None }
+        requires free { open_at (state self.old) (key_of call which) ≡ None }
         requires small { call.lock ≤ 2 ^ 62 }
         ensures { state self.new ≡ entered (state self.old) thread call which }
     {

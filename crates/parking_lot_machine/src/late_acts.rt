@@ -3,8 +3,8 @@ ghost use Rattle.std.specs.Prelude.{◌≡◌, ◌≤◌, ◌^◌, true, None, S
 ghost use Rattle.std.specs.List.{position, position_or_len};
 ghost use Rattle.parking_lot_machine_calls.specs.declared.seat.QueuePosition.TheVariants as spot;
 ghost use Rattle.parking_lot_machine.specs.LateActs.{expired, found, quitted, returned};
-ghost use Rattle.parking_lot_machine_calls.specs.LateCalls.{comes_late, is_back, sleeps_in_time};
-ghost use Rattle.parking_lot_machine.specs.Rows.{call_at, is_for, state};
+ghost use Rattle.parking_lot_machine_calls.specs.LateCalls.{comes_late, is_back, late_key, sleeps_in_time};
+ghost use Rattle.parking_lot_machine.specs.Rows.{call_at, is_for, open_at, state};
 
 use crate::lot_calls;
 use crate::row_machine::RowMachine;
@@ -39,12 +39,12 @@ impl<A: Allocator> RowMachine<A> {
         });
     }
 
-    /// It comes back into the section of its list, where nobody is in one and it still stands there.
+    /// It comes back into the section of its list, where nobody is in one of the same bucket and it still stands there.
     pub(crate) fn come_back(&mut self, thread: usize, call: Call)
         requires here { call_at (state self.old) thread ≡ Some call }
         requires late { comes_late call.core ≡ true }
         requires listed { call.spot ≡ spot.Listed }
-        requires free { (state self.old).lot.section ≡ None }
+        requires free { open_at (state self.old) (late_key call) ≡ None }
         requires small { call.lock ≤ 2 ^ 62 }
         ensures { state self.new ≡ returned (state self.old) thread call }
     {
@@ -52,13 +52,13 @@ impl<A: Allocator> RowMachine<A> {
         self.calls[thread] = Some(call.told(ActResult::Entered));
     }
 
-    /// It comes back, where nobody is in a section, and finds that a thread has taken it. From then on nobody is to
-    /// wake it.
+    /// It comes back, where nobody is in a section of its list's bucket, and finds that a thread has taken it. From then
+    /// on nobody is to wake it.
     pub(crate) fn find(&mut self, thread: usize, call: Call, by: usize, said: WakeResult)
         requires here { call_at (state self.old) thread ≡ Some call }
         requires late { comes_late call.core ≡ true }
         requires off { call.spot ≡ spot.Off by said }
-        requires free { (state self.old).lot.section ≡ None }
+        requires free { open_at (state self.old) (late_key call) ≡ None }
         requires small { call.lock ≤ 2 ^ 62 }
         ensures { state self.new ≡ found (state self.old) thread call by said }
     {

@@ -11,7 +11,7 @@ ghost use Rattle.parking_lot_core_model.specs.Results.{is_left};
 ghost use Rattle.parking_lot_core_model.specs.Sound.{Sound};
 ghost use Rattle.parking_lot_core_model.specs.Machine.{machine, given_up, quit_fault, quitted, return_fault, returned};
 ghost use Rattle.parking_lot_core_model.specs.Machine.{any_phase, closed, enter_fault, in_phase, joined, opened};
-ghost use Rattle.parking_lot_core_model.specs.Machine.{section_of, step_fault, stored};
+ghost use Rattle.parking_lot_core_model.specs.Machine.{open_at, section_of, step_fault, stored};
 ghost use Rattle.parking_lot_protocol.specs.Wake.{wake_answer};
 ghost use Rattle.parking_lot_machine.specs.NextTakings.{NextTaken};
 ghost use Rattle.parking_lot_machine.specs.Passes.{ArePassed};
@@ -24,7 +24,7 @@ use std::alloc::Allocator;
 
 /// Opens a section of a key.
 pub(crate) fn enter<A: Allocator>(lot: &mut Lot<A>, thread: usize, key: usize)
-    requires free { enter_fault (machine lot.old) thread ≡ None }
+    requires free { enter_fault (machine lot.old) thread key ≡ None }
     ensures opened { machine lot.new ≡ opened (machine lot.old) (Some thread) key }
     ensures sound { Sound (machine lot.new) }
 {
@@ -35,7 +35,8 @@ pub(crate) fn enter<A: Allocator>(lot: &mut Lot<A>, thread: usize, key: usize)
 /// Says in a section whether its thread is to join the list.
 pub(crate) fn check<A: Allocator>(lot: &mut Lot<A>, thread: usize, joins: bool)
     requires inside { step_fault may_check (machine lot.old) thread ≡ None }
-    ensures checked { machine lot.new ≡ in_phase (machine lot.old) (if joins then phase.Valid else phase.Invalid) }
+    ensures checked { (s : Section) → section_of (machine lot.old) thread ≡ Some s
+        → machine lot.new ≡ in_phase (machine lot.old) s.key (if joins then phase.Valid else phase.Invalid) }
     ensures sound { Sound (machine lot.new) }
 {
     let _ = lot.check(thread, joins);
@@ -45,7 +46,8 @@ pub(crate) fn check<A: Allocator>(lot: &mut Lot<A>, thread: usize, joins: bool)
 /// Says in a section that its store is made.
 pub(crate) fn store<A: Allocator>(lot: &mut Lot<A>, thread: usize, token: UnparkToken)
     requires inside { step_fault may_store (machine lot.old) thread ≡ None }
-    ensures stored { machine lot.new ≡ stored (machine lot.old) token }
+    ensures stored { (s : Section) → section_of (machine lot.old) thread ≡ Some s
+        → machine lot.new ≡ stored (machine lot.old) s.key token }
     ensures sound { Sound (machine lot.new) }
 {
     let _ = lot.store_done(thread, token);
@@ -55,7 +57,8 @@ pub(crate) fn store<A: Allocator>(lot: &mut Lot<A>, thread: usize, token: Unpark
 /// Closes a section.
 pub(crate) fn leave<A: Allocator>(lot: &mut Lot<A>, thread: usize)
     requires inside { step_fault any_phase (machine lot.old) thread ≡ None }
-    ensures closed { machine lot.new ≡ closed (machine lot.old) false }
+    ensures closed { (s : Section) → section_of (machine lot.old) thread ≡ Some s
+        → machine lot.new ≡ closed (machine lot.old) s.key false }
     ensures sound { Sound (machine lot.new) }
 {
     let _ = lot.leave(thread);
@@ -66,7 +69,7 @@ pub(crate) fn leave<A: Allocator>(lot: &mut Lot<A>, thread: usize)
 pub(crate) fn append<A: Allocator>(lot: &mut Lot<A>, thread: usize, token: ParkToken)
     requires inside { step_fault may_join (machine lot.old) thread ≡ None }
     ensures joined { (s : Section) → section_of (machine lot.old) thread ≡ Some s
-        → machine lot.new ≡ joined (in_phase (machine lot.old) phase.Joined) thread s.key token false }
+        → machine lot.new ≡ joined (in_phase (machine lot.old) s.key phase.Joined) thread s.key token false }
     ensures sound { Sound (machine lot.new) }
 {
     let _ = lot.append(thread, token, false);
@@ -88,25 +91,38 @@ pub(crate) fn come_back<A: Allocator>(lot: &mut Lot<A>, thread: usize, key: usiz
 pub(crate) fn find<A: Allocator>(lot: &mut Lot<A>, thread: usize, key: usize)
     requires free { return_fault (machine lot.old) thread key ≡ None }
     requires off { (token : UnparkToken) × (sleep : Sleep)
-        × (place_at (machine lot.old).places thread ≡ Some (Taken token sleep false)) }
+        × (place_at (machine lot.old).places thread ≡ Some (Taken token key sleep false)) }
     ensures found { machine lot.new ≡ stored
         (in_phase (record (returned (machine lot.old) thread key)
-        { places = slice_set (machine lot.old).places thread (Some Running) }) phase.Ended) (record { 0 = 0 }) }
+        { places = slice_set (machine lot.old).places thread (Some Running) }) key phase.Ended) key (record { 0 = 0 }) }
     ensures sound { Sound (machine lot.new) }
 {
     come_back(lot, thread, key);
-    quit_taken(lot, thread);
+    quit_taken(lot, thread, key);
+    store_nothing(lot, thread, key);
+}
+
+/// Says in a thread's section of a key that there is nothing to store.
+fn store_nothing<A: Allocator>(lot: &mut Lot<A>, thread: usize, key: usize)
+    requires store { step_fault may_store (machine lot.old) thread ≡ None }
+    requires within { (s : Section) × (section_of (machine lot.old) thread ≡ Some s) × (s.key ≡ key) }
+    ensures stored { machine lot.new ≡ stored (machine lot.old) key (record { 0 = 0 }) }
+    ensures sound { Sound (machine lot.new) }
+{
     store(lot, thread, DEFAULT_UNPARK_TOKEN);
 }
 
 /// Has a thread run that came back into its section and was taken.
-fn quit_taken<A: Allocator>(lot: &mut Lot<A>, thread: usize)
+fn quit_taken<A: Allocator>(lot: &mut Lot<A>, thread: usize, key: usize)
     requires there { quit_fault (machine lot.old) thread ≡ None }
     requires off { (token : UnparkToken) × (sleep : Sleep)
-        × (place_at (machine lot.old).places thread ≡ Some (Taken token sleep false)) }
-    requires inside { (s : Section) × ((machine lot.old).section ≡ Some s) × (s.thread ≡ Some thread) }
+        × (place_at (machine lot.old).places thread ≡ Some (Taken token key sleep false)) }
+    requires inside { (s : Section) × ((machine lot.old).inside thread ≡ Some key)
+        × (open_at (machine lot.old) key ≡ Some s) × (s.key ≡ key) }
     ensures runs { machine lot.new ≡ in_phase
-        (record (machine lot.old) { places = slice_set (machine lot.old).places thread (Some Running) }) phase.Ended }
+        (record (machine lot.old) { places = slice_set (machine lot.old).places thread (Some Running) }) key
+        phase.Ended }
+    ensures within { (s : Section) × (section_of (machine lot.new) thread ≡ Some s) × (s.key ≡ key) }
     ensures store { step_fault may_store (machine lot.new) thread ≡ None }
 {
     let _ = lot.quit(thread);
@@ -117,17 +133,18 @@ fn quit_taken<A: Allocator>(lot: &mut Lot<A>, thread: usize)
 pub(crate) fn quit<A: Allocator>(lot: &mut Lot<A>, thread: usize, key: usize, stores: bool) -> bool
     requires there { quit_fault (machine lot.old) thread ≡ None }
     requires waits { (sleep : Sleep) × (place_at (machine lot.old).places thread ≡ Some (Waiting key sleep)) }
-    requires inside { (s : Section) × ((machine lot.old).section ≡ Some s) × (s.thread ≡ Some thread) }
-    ensures left { result ≡ is_left ((in_phase (given_up (machine lot.old) thread key) phase.Ended).queues key) }
+    requires inside { (s : Section) × ((machine lot.old).inside thread ≡ Some key)
+        × (open_at (machine lot.old) key ≡ Some s) × (s.key ≡ key) }
+    ensures left { result ≡ is_left ((in_phase (given_up (machine lot.old) thread key) key phase.Ended).queues key) }
     ensures out { machine lot.new
-        ≡ (if result || stores then stored (in_phase (given_up (machine lot.old) thread key) phase.Ended)
-        (record { 0 = 0 }) else in_phase (given_up (machine lot.old) thread key) phase.Ended) }
+        ≡ (if result || stores then stored (in_phase (given_up (machine lot.old) thread key) key phase.Ended) key
+        (record { 0 = 0 }) else in_phase (given_up (machine lot.old) thread key) key phase.Ended) }
     ensures sound { Sound (machine lot.new) }
 {
     quit_list(lot, thread, key);
     let left = lot.has_waiters(key);
     if left || stores {
-        store(lot, thread, DEFAULT_UNPARK_TOKEN);
+        store_nothing(lot, thread, key);
     }
     lot.known();
     left
@@ -137,8 +154,10 @@ pub(crate) fn quit<A: Allocator>(lot: &mut Lot<A>, thread: usize, key: usize, st
 fn quit_list<A: Allocator>(lot: &mut Lot<A>, thread: usize, key: usize)
     requires there { quit_fault (machine lot.old) thread ≡ None }
     requires waits { (sleep : Sleep) × (place_at (machine lot.old).places thread ≡ Some (Waiting key sleep)) }
-    requires inside { (s : Section) × ((machine lot.old).section ≡ Some s) × (s.thread ≡ Some thread) }
-    ensures out { machine lot.new ≡ in_phase (given_up (machine lot.old) thread key) phase.Ended }
+    requires inside { (s : Section) × ((machine lot.old).inside thread ≡ Some key)
+        × (open_at (machine lot.old) key ≡ Some s) × (s.key ≡ key) }
+    ensures out { machine lot.new ≡ in_phase (given_up (machine lot.old) thread key) key phase.Ended }
+    ensures within { (s : Section) × (section_of (machine lot.new) thread ≡ Some s) × (s.key ≡ key) }
     ensures store { step_fault may_store (machine lot.new) thread ≡ None }
 {
     let _ = lot.quit(thread);
@@ -181,11 +200,11 @@ pub(crate) fn take_next<A: Allocator>(lot: &mut Lot<A>, thread: usize, sum: u64)
 
 /// Wakes a thread that was taken, and has it run. Answers the token that it was told.
 pub(crate) fn rouse<A: Allocator>(lot: &mut Lot<A>, thread: usize, mark: u64) -> UnparkToken
-    requires told { (token : UnparkToken) × (sleep : Sleep)
-        × (place_at (machine lot.old).places thread ≡ Some (Taken token sleep false)) × (sleep.late ≡ false)
+    requires told { (token : UnparkToken) × (key : ℕ) × (sleep : Sleep)
+        × (place_at (machine lot.old).places thread ≡ Some (Taken token key sleep false)) × (sleep.late ≡ false)
         × (sleep.mark ≡ mark) }
-    ensures token { (token : UnparkToken) (sleep : Sleep) → place_at (machine lot.old).places thread ≡ Some
-        (Taken token sleep false) → result ≡ token }
+    ensures token { (token : UnparkToken) (key : ℕ) (sleep : Sleep)
+        → place_at (machine lot.old).places thread ≡ Some (Taken token key sleep false) → result ≡ token }
     ensures runs { machine lot.new ≡ record (machine lot.old)
         { places = slice_set (machine lot.old).places thread (Some Running) } }
     ensures sound { Sound (machine lot.new) }

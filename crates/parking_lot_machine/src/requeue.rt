@@ -17,11 +17,11 @@ use std::alloc::Allocator;
 
 impl<A: Allocator> RowMachine<A> {
     /// Whether a thread may be [woken to ask](RowMachine::rouse_in) for a mutex: it may ask for it, and no section is
-    /// open.
+    /// open in the bucket of its list.
     pub fn may_rouse_in(&self, waiter: usize, lock: usize) -> bool
         ensures { result ≡ may_rouse_in (state self.now) waiter lock }
     {
-        self.may_begin(waiter, lock, LockCall::Lock) && !self.lot.is_entered(lock)
+        self.may_begin(waiter, lock, LockCall::Lock) && !self.lot.is_entered(2 * lock)
     }
 
     /// Whether a thread may be [taken into the list](RowMachine::take_in) of a mutex: the same, and the mutex is

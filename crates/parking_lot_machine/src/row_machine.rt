@@ -1,5 +1,5 @@
 //! The machine of locks: words, lists and a call for each thread, moved one atomic step at a time.
-ghost use Rattle.std.specs.Prelude.{◌≡◌, ◌<◌, ◌↔◌, ◌⊎◌, ◌^◌, length, slice_get, Some, None, true, if◌then◌else◌};
+ghost use Rattle.std.specs.Prelude.{◌≡◌, ◌<◌, ◌≤◌, ◌↔◌, ◌⊎◌, ◌^◌, length, slice_get, Some, None, true, if◌then◌else◌};
 ghost use Rattle.std.specs.Prelude.{IsErrOf, IfOk, IfErr, IsTrue};
 ghost use Rattle.parking_lot_core_model.specs.declared.fault.SizeFault.TheVariants.{BadSize, NoMemory};
 ghost use Rattle.parking_lot_protocol.specs.declared.act.Act.TheVariants as act;
@@ -119,27 +119,30 @@ impl<A: Allocator> RowMachine<A> {
         &self.lot
     }
 
-    /// Whether a thread can make a step: it is in a call, doesn't sleep, and isn't before a section that another has
-    /// entered.
+    /// Whether a thread can make a step: it is in a call, doesn't sleep, and isn't before a section whose bucket another
+    /// has entered.
     pub fn can_move(&self, thread: usize) -> bool
         ensures { result ≡ can_move (state self.now) thread }
     {
+        let _ = &self.wakes;
         let Some(call) = self.call(thread) else {
             return false;
         };
         self.goes_late(&call)
             || match call.core.act() {
                 Act::Sleep => false,
-                Act::Enter(_) => !self.lot.is_entered(call.lock),
+                Act::Enter(which) => !self.lot.is_entered(call.key(which)),
                 _ => true,
             }
     }
 
     /// Whether a thread whose moment has passed comes back now, or takes itself out of its list.
     fn goes_late(&self, call: &Call) -> bool
+        requires small { call.now.lock ≤ 2 ^ 62 }
         ensures { result ≡ goes_late (state self.now) call.now call.now.core }
     {
-        call.core.is_back() || (call.core.comes_late() && !self.lot.is_entered(call.lock))
+        call.core.is_back()
+            || (call.core.comes_late() && !self.lot.is_entered(call.key(call.core.late_list())))
     }
 
     /// Whether a thread's deadline may come: it sleeps in a timed call, in its list or taken and not woken yet, and it

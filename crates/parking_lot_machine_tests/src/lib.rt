@@ -4,6 +4,8 @@
 #![tactic(auto)]
 
 #[cfg(test)]
+mod buckets;
+#[cfg(test)]
 mod calls;
 #[cfg(test)]
 mod condvars;

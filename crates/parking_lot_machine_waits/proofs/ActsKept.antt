@@ -56,7 +56,7 @@ call_opens x t c (core.Notify k) own = notify_opens t k.phase x.inside
 
 module _ (i j : Joint) (v : ℕ) (x y : Var) (h : IsWhole i) (at : var_at i v ≡ Some x)
     (vars : j.vars ≡ slice_set i.vars v (Some y)) where
-  pub fewer_shut : Fewer x.inside y.inside → (state j.rows).lot.section ≡ (state i.rows).lot.section → AreShut j
+  pub fewer_shut : Fewer x.inside y.inside → is_open_at_locks j ≡ is_open_at_locks i → AreShut j
   fewer_shut fewer same = var_shut i j h v x y at vars fewer
       (elim h.sections [ inl e ↦ inl (same ∙ e) | inr e ↦ inr e ])
 
@@ -66,13 +66,9 @@ module _ (i j : Joint) (v : ℕ) (x y : Var) (h : IsWhole i) (at : var_at i v �
   shut_out true false false e f = (refl, refl)
   shut_out false a b e f = absurd cc
 
-  closed_of : {X : Type 0} (o : Option X) → is_some o ≡ false → o ≡ None
-  closed_of None e = refl
-  closed_of (Some z) e = absurd cc
-
   -- A thread has made its own act there, which enters no section beside another.
   pub acted_shut : (t : ℕ) (c : OpenCall) → call_in (Some x) t ≡ Some c → y ≡ stepped_by c.core x t c
-      → var_goes i t c (Some x) ≡ true → (state j.rows).lot.section ≡ (state i.rows).lot.section → AreShut j
+      → var_goes i t c (Some x) ≡ true → is_open_at_locks j ≡ is_open_at_locks i → AreShut j
   acted_shut t c here became goes same = by (call_opens x t c c.core own)
     where
       own : is_own c ≡ true
@@ -82,7 +78,7 @@ module _ (i j : Joint) (v : ℕ) (x y : Var) (h : IsWhole i) (at : var_at i v �
       by : (enters c ≡ true) ⊎ Fewer x.inside (stepped_by c.core x t c).inside → AreShut j
       by (inl e) =
           let out = shut_out (enters c) (is_open_at_locks i) (is_open_at_variables i) (both_true _ _ goes).1 e in
-          now_open i j v x (Some y) at vars (same ∙ closed_of (state i.rows).lot.section out.0) out.1
+          now_open i j v x (Some y) at vars (same ∙ out.0) out.1
       by (inr fewer) = fewer_shut (subst (λ (z : Var). Fewer x.inside z.inside) (sym became) fewer) same
 
 -- WHERE A WAIT GOES ON

@@ -1,4 +1,5 @@
 -- The turns of a thread at a variable alone: its own acts there, and hearing of one that is made.
+use Rattle.parking_lot_machine_waits.specs.Joint.{any_section}
 use Rattle.std.proofs.Common.{◌≡◌, ◌≢◌, ℕ, ◌==◌, Bool, true, false, not, cond, Option, Some, None, slice_set, refl, sym}
 use Rattle.std.proofs.Common.{ap, ◌∙◌, subst}
 use Rattle.std.proofs.lemmas.Option.{same_Some}
@@ -182,7 +183,7 @@ module _ (i j : Joint) (t v : ℕ) (c : OpenCall) (reply : Option CondvarReply) 
       became = acts.became ∙ ap (λ (d : OpenCall). stepped_by d.core x t d) same
 
       shut : (k : Joint) → k.vars ≡ slice_set i.vars v (Some y) → k.rows ≡ i.rows → AreShut k
-      shut k vars rows = acted_shut i k v x y h at vars t c there became can (ap (λ r. (state r).lot.section) rows)
+      shut k vars rows = acted_shut i k v x y h at vars t c there became can (ap (λ r. any_section (state r)) rows)
 
       finish : (r : Option CondvarReply) → After i t v c x y h here at r → j.seats ≡ freed t r i.seats → IsWhole j
       finish None z seats = rebuilt j _ _ _ rows vars seats z

@@ -1,4 +1,7 @@
 -- Where a machine is whole, what a step needs at the locks is so.
+use Rattle.parking_lot_machine_waits.specs.Joint.{is_open_at_locks}
+use Rattle.parking_lot_machine_waits.proofs.AnySections.{none_of_key}
+use Rattle.parking_lot_machine.specs.Rows.{first_key}
 use Rattle.std.proofs.Common.{◌≡◌, ◌≢◌, ◌||◌, inl, inr, ℕ, zero, suc, ◌+◌, ◌-◌, ◌*◌, ◌<◌, Bool, true, false, not, cond}
 use Rattle.std.proofs.Common.{◌&&◌, is_some, is_none, List, [], ◌∷◌, length, Option, Some, None, slice_get, refl, sym}
 use Rattle.std.proofs.Common.{ap, ◌∙◌, subst, arith, eqb-true}
@@ -189,7 +192,7 @@ in_var vars v x e = go (slice_get vars v) refl
 
 -- where a section of a variable is open, none of a lock is
 pub locks_closed : (j : Joint) (v t : ℕ) (x : Var) → IsWhole j → var_at j v ≡ Some x → is_the x.inside t ≡ true
-    → (state j.rows).lot.section ≡ None
+    → is_open_at_locks j ≡ false
 locks_closed j v t x h here inside = elim h.sections [
   | inl e ↦ e
   | inr e ↦ not_open _ (any_of is_entered j.vars v (Some x) (in_var j.vars v x here) (has_entered x t inside)) e
@@ -254,8 +257,9 @@ module _ (j : Joint) (h : IsWhole j) (v : ℕ) (x : Var) (at : var_at j v ≡ So
           (known.0.sound.agrees u (phase_in o) (slice_get-map phase_in x.calls u ∙ ap (option_map phase_in) is))
           inside other
 
-  may_be_moved : (u : ℕ) → (state j.rows).lot.section ≡ None → Waiter x u → may_move j (x.word - 1) u ≡ true
-  may_be_moved u closed y =
+  may_be_moved : (u : ℕ) → 0 < (state j.rows).lot.buckets → is_open_at_locks j ≡ false → Waiter x u
+      → may_move j (x.word - 1) u ≡ true
+  may_be_moved u some closed y =
       let stands : Waits j u y.call y.phase = subst (Stands j u y.call) y.core
       (h.stands v u y.call (here_too u y.call y.here)) in
       let low = thread_low u y.call y.here in
@@ -265,13 +269,15 @@ module _ (j : Joint) (h : IsWhole j) (v : ℕ) (x : Var) (at : var_at j v ≡ So
       (subst (λ (a : AtMutex). IsSo a (state j.rows) (back_number j u) (mutex_of y.call.call)) y.away stands.back) in
       both _ _ (lt-ltb u _ low)
       (both _ _ (subst (λ m. may_begin (state j.rows) (back_number j u) m call.Lock ≡ true) (omega (arith, y.word))
-      may) (ap (λ (o : Option Section). not (is_some o)) closed))
+      may) (ap (λ (o : Option Section). not (is_some o))
+      (none_of_key (state j.rows).lot (first_key (x.word - 1)) some closed)))
 
   -- whoever stands in its list may be moved, where a notification is in the section
-  all_may : (t : ℕ) → is_the x.inside t ≡ true → ((u : ℕ) → 0 < occurs u x.queue → u ≢ t)
+  all_may : (t : ℕ) → 0 < (state j.rows).lot.buckets → is_the x.inside t ≡ true
+      → ((u : ℕ) → 0 < occurs u x.queue → u ≢ t)
       → list_all (may_move j (x.word - 1)) x.queue ≡ true
-  all_may t inside others = all_of (may_move j (x.word - 1)) x.queue
-      (λ u some. may_be_moved u (locks_closed j v t x h at inside) (waiter t u inside (others u some) some))
+  all_may t some_bucket inside others = all_of (may_move j (x.word - 1)) x.queue
+      (λ u some. may_be_moved u some_bucket (locks_closed j v t x h at inside) (waiter t u inside (others u some) some))
 
   -- a notification itself doesn't stand there
   pub not_itself : (t : ℕ) (c : OpenCall) → var_call_at x t ≡ Some c → (m : Marking c) → (u : ℕ) → 0 < occurs u x.queue
@@ -294,10 +300,11 @@ module _ (j : Joint) (h : IsWhole j) (v : ℕ) (x : Var) (at : var_at j v ≡ So
         notify_waits (n.Marks m.all),
       ))
 
-  moves_all : (t : ℕ) (c : OpenCall) → var_call_at x t ≡ Some c → Marking c → list_all (may_move j (x.word - 1)) x.queue
+  moves_all : (t : ℕ) (c : OpenCall) → 0 < (state j.rows).lot.buckets → var_call_at x t ≡ Some c → Marking c
+      → list_all (may_move j (x.word - 1)) x.queue
       ≡ true
-  moves_all t c here m =
-      all_may t (sym (known.0.seated t c here).section ∙ ap (λ (k : Core). is_inside_by c.listed k) m.is)
+  moves_all t c some here m =
+      all_may t some (sym (known.0.seated t c here).section ∙ ap (λ (k : Core). is_inside_by c.listed k) m.is)
       (not_itself t c here m)
 
 -- WHAT A TURN NEEDS
@@ -404,7 +411,7 @@ module _ (j : Joint) (h : IsWhole j) (fits : FitsTogether (state j.rows)) (v t :
       (thread_low j h v x at known t c here) stands (stood c.listed k.phase)
   at_var (Some x) at known here (core.Notify k) is stands =
       by_notice (notify_turn k.phase)
-      (λ e. ap (λ (o : Option Var). may_move_all j o) at ∙ moves_all j h v x at known t c here
+      (λ e. ap (λ (o : Option Var). may_move_all j o) at ∙ moves_all j h v x at known t c fits.lots.sound.fit.some here
       (marking c (ap (λ (d : Core). is_moving (turn_by c.listed d)) is ∙ e))) (not_of_wait k.phase)
 
   pub turn_ready : KnownIn (var_at j v) → call_at j v t ≡ Some c → turn_is_ready (turn_of c) j t v c ≡ true

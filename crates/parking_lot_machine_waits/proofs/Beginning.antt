@@ -1,4 +1,5 @@
 -- A call that begins at a variable leaves a machine whole.
+use Rattle.parking_lot_machine_waits.specs.Joint.{any_section}
 use Rattle.std.proofs.Common.{◌≡◌, ◌≢◌, ◌⊎◌, inl, inr, ℕ, ◌+◌, ◌<◌, Bool, true, false, not, cond, nat_lt, ◌&&◌, ◌||◌}
 use Rattle.std.proofs.Common.{is_none, is_some, List, length, Option, Some, None, option_map, slice_get, slice_set}
 use Rattle.std.proofs.Common.{refl, sym, ap, ◌∙◌, subst, eqb-true}
@@ -198,7 +199,7 @@ module _ (agree : Always OwnersAgree) (i j : Joint) (t v : ℕ) (c : CondvarCall
       (λ w d there. absurd (none-some d (sym (free_at i h t unseated w) ∙ there))))
       (stand c refl kept.plain)))
       (var_shut i j h v x y at written_vars (λ e. ap (λ (z : Var). is_some z.inside) (sym begins.became) ∙ e)
-      (subst (λ (r : Rows). ((state r).lot.section ≡ None) ⊎ (is_open_at_variables i ≡ false)) (sym rows) h.sections))
+      (subst (λ (r : Rows). (any_section (state r) ≡ false) ⊎ (is_open_at_variables i ≡ false)) (sym rows) h.sections))
       (subst (λ (r : Rows). HoldsWhole (state r)) (sym rows) h.holds)
 
 -- It begins there.

@@ -1,5 +1,7 @@
 -- What a waiter does at its mutex that was taken off the variable's list leaves a machine whole: it comes back into the
 -- mutex's list, or goes on there.
+use Rattle.parking_lot_machine_waits.specs.Joint.{any_section}
+use Rattle.parking_lot_core_model.specs.Buckets.{any_open}
 use Rattle.std.proofs.Common.{◌≡◌, ◌≢◌, ◌⊎◌, inl, inr, ℕ, ◌==◌, ◌<◌, Bool, true, false, not, cond, ◌&&◌, length, Option}
 use Rattle.std.proofs.Common.{Some, None, refl, sym, ap, ◌∙◌, subst}
 use Rattle.std.proofs.lemmas.List.{length-set}
@@ -95,7 +97,7 @@ module _ (i j : Joint) (t v : ℕ) (c : OpenCall) (h : IsWhole i) (fits : PartsF
         let kept = rows_same i j (is t) same in
         heard_whole i j t v c (w.Expires k) h fits here is_core seats kept
         (subst (λ r. HoldsWhole (state r)) (sym same) h.holds)
-        (subst (λ r. ((state r).lot.section ≡ None) ⊎ (is_open_at_variables i ≡ false)) (sym same) h.sections)
+        (subst (λ r. (any_section (state r) ≡ false) ⊎ (is_open_at_variables i ≡ false)) (sym same) h.sections)
         outside.Made hears
         (λ plain. stands_at i j t v c (w.Expires k) h fits here is_core (w.Quits k) kept plain stood_there.names
         (front_still i j t seats Away (mutex_of c.call) (same_stays (front_number i t)) stood_there.front)
@@ -174,7 +176,7 @@ module _ (i j : Joint) (t v : ℕ) (c : OpenCall) (p : WaitPhase) (h : IsWhole i
   others = front_differs i t within
 
   -- it was told so, and owns the mutex or goes on asking for it
-  told_whole : (token : UnparkToken) → RowsKept i j (is t) → HoldsWhole u → (u.lot.section ≡ None)
+  told_whole : (token : UnparkToken) → RowsKept i j (is t) → HoldsWhole u → (any_section u ≡ false)
       ⊎ (is_open_at_variables i ≡ false) → HearsAt t v (wakes_with c.core token) i j
       → Stays s u (front_number i t) → IsSo (woken_by (token.0 == 1)) u own lock → IsWhole j
   told_whole token kept holds sections hears front so =
@@ -196,7 +198,7 @@ module _ (i j : Joint) (t v : ℕ) (c : OpenCall) (p : WaitPhase) (h : IsWhole i
   holds_after = went_holds i j t v c p h fits here o.core seats (seat_at i t).second
 
   shut_after : (enters : Bool) (a : Option CoreAnswer) → not (enters && is_open_at_variables i) ≡ true
-      → Goes a enters own s u → (u.lot.section ≡ None) ⊎ (is_open_at_variables i ≡ false)
+      → Goes a enters own s u → (any_section u ≡ false) ⊎ (is_open_at_variables i ≡ false)
   shut_after = went_sections i j t v c p h fits here o.core seats (seat_at i t).second
 
   -- its call goes on
@@ -229,7 +231,7 @@ module _ (i j : Joint) (t v : ℕ) (c : OpenCall) (p : WaitPhase) (h : IsWhole i
       (rows_by i j t (seat_at i t).second (ap (λ (y : State). length y.calls) begins.became ∙ length-set mid.calls own _
       ∙ count) (ap (λ (y : State). y.kinds) begins.became ∙ ap (λ (y : State). y.kinds) x.became) others_stay)
       (written_holds mid u own _ begins.became (over_holds s mid own answer.Refused fits.rows x h.holds))
-      (subst (λ (l : Machine). (l.section ≡ None) ⊎ (is_open_at_variables i ≡ false))
+      (subst (λ (l : Machine). (any_open l.sections l.buckets ≡ false) ⊎ (is_open_at_variables i ≡ false))
       (sym (ap (λ (y : State). y.lot) begins.became ∙ ap (λ (y : State). y.lot) x.became)) h.sections)
       hears (others_stay _ others)
       (subst (λ (m : ℕ). IsIn asks_on u own m) at

@@ -1,12 +1,10 @@
 -- Whoever gives its mutex up stays out of sections by its other number.
-use Rattle.std.proofs.Common.{◌≡◌, ◌≢◌, ◌⊎◌, inl, inr, ℕ, ◌+◌, ◌*◌, ◌<◌, ◌&&◌, Bool, true, false, not, cond, nat_lt}
+use Rattle.std.proofs.Common.{◌≡◌, ◌≢◌, inl, inr, ℕ, ◌+◌, ◌*◌, ◌<◌, ◌&&◌, Bool, true, false, not, cond, nat_lt}
 use Rattle.std.proofs.Common.{List, length, Option, Some, None, slice_get, slice_set, refl, sym, ap, ◌∙◌, subst, arith}
-use Rattle.std.specs.Option.{option_and_then, unwrap_or}
+use Rattle.std.specs.Option.{unwrap_or}
 use Rattle.std.proofs.lemmas.Bool.{cases_eq, ltb-true}
 use Rattle.std.proofs.lemmas.List.{length-set}
 use Rattle.std.proofs.lemmas.Option.{none-some, same_Some}
-use Rattle.parking_lot_core_model.specs.declared.place.Section.{Section}
-use Rattle.parking_lot_core_model.specs.Places.{place_at}
 use Rattle.parking_lot_core_model.specs.declared.parking.UnparkToken.{UnparkToken}
 use Rattle.parking_lot_protocol.specs.declared.act.CoreAnswer.{CoreAnswer}
 use Rattle.parking_lot_protocol.specs.declared.act.CoreAnswer.TheVariants as answer
@@ -32,8 +30,8 @@ use Rattle.parking_lot_machine_calls.specs.declared.calls.LockCall.{LockCall}
 use Rattle.parking_lot_machine_calls.specs.declared.calls.LockCall.TheVariants as call
 use Rattle.parking_lot_machine_calls.specs.declared.open_call.Call.{Call}
 use Rattle.parking_lot_machine.specs.Machines as rows
-use Rattle.parking_lot_machine.specs.RowFits.{FitsTogether, Seated}
-use Rattle.parking_lot_machine.specs.Rows.{Rows, State, call_at as row_call_at, inside, state}
+use Rattle.parking_lot_machine.specs.RowFits.{FitsTogether, SeatedIn}
+use Rattle.parking_lot_machine.specs.Rows.{Rows, State, call_at as row_call_at, state}
 use Rattle.parking_lot_machine_waits.specs.declared.ended.Ended.{Ended}
 use Rattle.parking_lot_machine_waits.specs.declared.seat.Seat.{Seat}
 use Rattle.parking_lot_machine_waits.specs.Joint.{Joint, back_number, busy_number, call_at, call_in, front_number}
@@ -54,19 +52,14 @@ use Rattle.parking_lot_machine_waits.proofs.Moves.{apart}
 use Rattle.parking_lot_machine_waits.proofs.Ranking.{Idle, away_idle, end_idle, listed_idle, owns_idle, woken_back}
 use Rattle.parking_lot_machine_waits.proofs.RankOthers.{free_of, middle}
 use Rattle.parking_lot_machine_waits.proofs.RankParts.{busy_is, idle_of, told_there}
-use Rattle.parking_lot_machine_waits.proofs.Sections.{Opens, OthersAt, acted_others, begun_others, heard_others}
-use Rattle.parking_lot_machine_waits.proofs.Sections.{is_shut, moved_shut, notified_others, same_others, stays_open}
+use Rattle.parking_lot_machine_waits.proofs.Sections.{NobodyComes, Opens, OthersAt, acted_others, begun_others}
+use Rattle.parking_lot_machine_waits.proofs.Sections.{heard_others, inside}
+use Rattle.parking_lot_machine_waits.proofs.Sections.{moved_shut, none_comes, notified_others, same_others, stays_open}
 use Rattle.parking_lot_machine_waits.proofs.Sections.{step_opens, var_elsewhere, var_others}
 
 -- one in no call is in no section
-idle_out : (s : State) → FitsTogether s → (k : ℕ) → k < length s.calls → row_call_at s k ≡ None → inside s ≢ Some k
-idle_out s fits k low none is = go s.lot.section refl is
-  where
-    go : (o : Option Section) → s.lot.section ≡ o → option_and_then (λ (x : Section). x.thread) o ≡ Some k → ⊥
-    go None e is = absurd (none-some k is)
-    go (Some x) e is =
-        (subst (λ (o : Option Call). Seated k o (place_at s.lot.places k) s.lot.section) none
-        (fits.lots.seated k low)).1 x e is
+idle_out : (s : State) → FitsTogether s → (k : ℕ) → k < length s.calls → row_call_at s k ≡ None → inside s k ≡ None
+idle_out s fits k low none = (subst (λ (o : Option Call). SeatedIn s.lot k o) none (fits.lots.seated k low)).1
 
 -- where it ends neither number is in a call
 end_front_idle : (a : WaitAnswer) → Idle (front_at_end a)
@@ -101,24 +94,22 @@ not_giving k m side is = absurd (different (sym (ap is_in_front is) ∙ side))
 module _ (i j : Joint) (h : IsWhole i) (fi : PartsFit i) (out : GiversAreOut i) (t : ℕ) (low : t < length i.seats) where
   abbrev OutHere : Type 0
   OutHere = (v m : ℕ) (c : OpenCall) → call_at j v t ≡ Some c → c.core ≡ core.Wait (record { phase = w.Unlocks m })
-      → inside (state j.rows) ≢ Some (back_number j t)
+      → inside (state j.rows) (back_number j t) ≡ None
 
   -- it is enough that one number of the thread has stepped, and the thread is out itself
   frame : (b : Bool) → Opens (number i t b) (inside (state i.rows)) (inside (state j.rows)) → OthersAt t i j
       → ((u : ℕ) → u ≢ t → back_number j u ≡ back_number i u) → OutHere → GiversAreOut j
-  frame b opens others backs own v u m c here is within_it = elim (cases_eq u t) [
-    | inl same ↦ own v m c (sym (ap (call_at j v) same) ∙ here) is (within_it ∙ ap (λ x. Some (back_number j x)) same)
+  frame b opens others backs own v u m c here is = elim (cases_eq u t) [
+    | inl same ↦ ap (λ x. inside (state j.rows) (back_number j x)) same
+        ∙ own v m c (sym (ap (call_at j v) same) ∙ here) is
     | inr ne ↦ theirs ne
   ]
     where
-      theirs : u ≢ t → ⊥
+      theirs : u ≢ t → inside (state j.rows) (back_number j u) ≡ None
       theirs ne =
           let (d, then, core) = others v u c ne here in
-          elim (opens (back_number j u) within_it) [
-            | inl e ↦ apart (length i.seats) u t (seat_at i u).second b (low_at v u d then) low ne
-                (sym (backs u ne) ∙ e)
-            | inr e ↦ out v u m d then (core ∙ is) (e ∙ ap Some (backs u ne))
-          ]
+          opens (back_number j u) (ap (inside (state i.rows)) (backs u ne) ∙ out v u m d then (core ∙ is))
+          (λ e. apart (length i.seats) u t (seat_at i u).second b (low_at v u d then) low ne (sym (backs u ne) ∙ e))
         where
           low_at : (v u : ℕ) (d : OpenCall) → call_at i v u ≡ Some d → u < length i.seats
           low_at v u d then = go (var_at i v) refl then
@@ -140,21 +131,18 @@ module _ (i j : Joint) (h : IsWhole i) (fi : PartsFit i) (out : GiversAreOut i) 
 
   -- both numbers are in no call, and nobody has come in
   idle_here : length j.seats ≡ length i.seats → ((b : Bool) → row_call_at (state i.rows) (number i t b) ≡ None)
-      → (inside (state j.rows) ≡ None) ⊎ (inside (state j.rows) ≡ inside (state i.rows)) → OutHere
-  idle_here sizes idle quiet v m c here is within_it = elim quiet [
-    | inl e ↦ none-some (back_number j t) (sym e ∙ within_it)
-    | inr e ↦
-        let b = (seat_at j t).second in
-        idle_out (state i.rows) fi.rows (number i t b)
-        (subst (λ m. number i t b < m) (sym h.numbers) (number_low (length i.seats) t b low)) (idle b)
-        (sym e ∙ within_it ∙ ap (λ m. Some (cond b (m + t) t)) sizes)
-  ]
+      → NobodyComes (inside (state i.rows)) (inside (state j.rows)) → OutHere
+  idle_here sizes idle quiet v m c here is =
+      let b = (seat_at j t).second in
+      quiet (back_number j t) (ap (λ m. inside (state i.rows) (cond b (m + t) t)) sizes
+      ∙ idle_out (state i.rows) fi.rows (number i t b)
+      (subst (λ m. number i t b < m) (sym h.numbers) (number_low (length i.seats) t b low)) (idle b))
 
   -- one that had no seat has none
   unseated_here : (seat_at i t).at ≡ None → j.vars ≡ i.vars → OutHere
-  unseated_here seat vars v m c here is within_it =
+  unseated_here seat vars v m c here is =
       let (d, then, core) = same_call v c here in
-      none-some v (sym seat ∙ h.seated v t d then)
+      absurd (none-some v (sym seat ∙ h.seated v t d then))
     where
       same_call : (v : ℕ) (c : OpenCall) → call_at j v t ≡ Some c → (d : OpenCall) × (call_at i v t ≡ Some d)
           × (d.core ≡ c.core)
@@ -173,7 +161,7 @@ module _ (i j : Joint) (h : IsWhole i) (fi : PartsFit i) (out : GiversAreOut i) 
 
     -- its call goes on, and it isn't giving its mutex up
     same_not : j.vars ≡ i.vars → is_in_front c.core ≡ false → OutHere
-    same_not vars side u m d there is within_it = elim (cases_eq u v) [
+    same_not vars side u m d there is = elim (cases_eq u v) [
       | inl e ↦ not_giving d.core m
           (ap (λ (x : OpenCall). is_in_front x.core) (same_Some d c (sym then ∙ ap (λ x. call_at i x t) e ∙ here))
           ∙ side) is
@@ -185,7 +173,7 @@ module _ (i j : Joint) (h : IsWhole i) (fi : PartsFit i) (out : GiversAreOut i) 
 
     heard_not : (seen : Outside) → HearsAt t v seen i j
         → ((queue : List ℕ) → is_in_front (told c queue seen).core ≡ false) → OutHere
-    heard_not seen heard side u m d there is within_it = elim (cases_eq u v) [
+    heard_not seen heard side u m d there is = elim (cases_eq u v) [
       | inl e ↦
           let then = told_there t v seen c i j here heard in
           not_giving d.core m
@@ -216,13 +204,8 @@ module _ (i j : Joint) (h : IsWhole i) (fi : PartsFit i) (out : GiversAreOut i) 
 
       -- an act of one whose numbers are in no call
       idle_acts : ((b : Bool) → row_call_at (state i.rows) (number i t b) ≡ None) → OthersAt t i j
-          → (inside (state j.rows) ≡ None) ⊎ (inside (state j.rows) ≡ inside (state i.rows)) → GiversAreOut j
-      idle_acts idle others quiet = frame true (opens quiet) others backs (idle_here sizes idle quiet)
-        where
-          opens : (inside (state j.rows) ≡ None) ⊎ (inside (state j.rows) ≡ inside (state i.rows))
-              → Opens (number i t true) (inside (state i.rows)) (inside (state j.rows))
-          opens (inl e) = is_shut _ _ _ e
-          opens (inr e) = stays_open _ _ _ e
+          → NobodyComes (inside (state i.rows)) (inside (state j.rows)) → GiversAreOut j
+      idle_acts idle others quiet = frame true (λ k none ne. quiet k none) others backs (idle_here sizes idle quiet)
 
       -- a wait's numbers
       both_idle : (p : WaitPhase) → Waits i t c p → Idle (front_of p) → Idle (back_of c.listed p) → (b : Bool)
@@ -232,7 +215,8 @@ module _ (i j : Joint) (h : IsWhole i) (fi : PartsFit i) (out : GiversAreOut i) 
 
       acts : (p : WaitPhase) → Waits i t c p → Idle (front_of p) → Idle (back_of c.listed p) → (r : Option CondvarReply)
           → ActsAt t v r i j → inside (state j.rows) ≡ inside (state i.rows) → GiversAreOut j
-      acts p x front back r a same = idle_acts (both_idle p x front back) (acted_others t v r i j a) (inr same)
+      acts p x front back r a same =
+          idle_acts (both_idle p x front back) (acted_others t v r i j a) (none_comes _ _ same)
 
       module _ (none : reply ≡ None) where
         kept : j.seats ≡ i.seats
@@ -250,10 +234,9 @@ module _ (i j : Joint) (h : IsWhole i) (fi : PartsFit i) (out : GiversAreOut i) 
             (others_of a heard) backs own
           where
             own : OutHere
-            own u q d there giving within_it = elim (step_opens _ _ _ fair a step (back_number j t) within_it) [
-              | inl e ↦ own_apart (length i.seats) t (seat_at i t).second low (sym (same_backs kept t) ∙ e)
-              | inr e ↦ out v t m c here is (e ∙ ap Some (same_backs kept t))
-            ]
+            own u q d there giving = step_opens _ _ _ fair a step (back_number j t)
+                (ap (inside (state i.rows)) (same_backs kept t) ∙ out v t m c here is)
+                (λ e. own_apart (length i.seats) t (seat_at i t).second low (sym (same_backs kept t) ∙ e))
 
         module _ (p : WaitPhase) (is : c.core ≡ core.Wait (record { phase = p })) (side : phase_in_front p ≡ false)
           where
@@ -289,7 +272,9 @@ module _ (i j : Joint) (h : IsWhole i) (fi : PartsFit i) (out : GiversAreOut i) 
               where
                 by : inside (state j.rows) ≡ inside f.mid → OthersAt t i j → OutHere → GiversAreOut j
                 by same others own =
-                    frame (seat_at i t).second (λ k e. step_opens _ _ _ fair f.answer f.step k (sym same ∙ e)) others
+                    frame (seat_at i t).second
+                    (λ k none ne. ap (λ (g : ℕ → Option ℕ). g k) same ∙ step_opens _ _ _ fair f.answer f.step k none
+                    ne) others
                     backs own
 
                 owned : (state j.rows ≡ f.mid) × HearsAt t v (wakes_with c.core handed) i j → GiversAreOut j
@@ -389,18 +374,24 @@ module _ (i j : Joint) (h : IsWhole i) (fi : PartsFit i) (out : GiversAreOut i) 
       notifies : (fair : Bool) (p : NotifyPhase) → ((b : Bool) → row_call_at (state i.rows) (number i t b) ≡ None)
           → Turned (notify_turn p) t v fair c reply i j → GiversAreOut j
       notifies fair (n.Notifying all) idle x = absurd x
-      notifies fair (n.Loads all) idle (a, r) = idle_acts idle (acted_others t v reply i j a) (inr (rows_same r))
-      notifies fair (n.Enters all word) idle (a, r) = idle_acts idle (acted_others t v reply i j a) (inr (rows_same r))
-      notifies fair (n.Checks all word) idle (a, r) = idle_acts idle (acted_others t v reply i j a) (inr (rows_same r))
+      notifies fair (n.Loads all) idle (a, r) =
+          idle_acts idle (acted_others t v reply i j a) (none_comes _ _ (rows_same r))
+      notifies fair (n.Enters all word) idle (a, r) =
+          idle_acts idle (acted_others t v reply i j a) (none_comes _ _ (rows_same r))
+      notifies fair (n.Checks all word) idle (a, r) =
+          idle_acts idle (acted_others t v reply i j a) (none_comes _ _ (rows_same r))
       notifies fair (n.Marks all) idle (none, x) = moves idle x
       notifies fair (n.Moves all locked) idle x = absurd x
       notifies fair (n.MarksRest notice) idle (none, heard, r) =
-          idle_acts idle (heard_others t v outside.Made i j heard) (inr (rows_same r))
-      notifies fair (n.Forgets notice) idle (a, r) = idle_acts idle (acted_others t v reply i j a) (inr (rows_same r))
-      notifies fair (n.Leaves notice) idle (a, r) = idle_acts idle (acted_others t v reply i j a) (inr (rows_same r))
+          idle_acts idle (heard_others t v outside.Made i j heard) (none_comes _ _ (rows_same r))
+      notifies fair (n.Forgets notice) idle (a, r) =
+          idle_acts idle (acted_others t v reply i j a) (none_comes _ _ (rows_same r))
+      notifies fair (n.Leaves notice) idle (a, r) =
+          idle_acts idle (acted_others t v reply i j a) (none_comes _ _ (rows_same r))
       notifies fair (n.Wakes count) idle (none, heard, r) = idle_acts idle (heard_others t v outside.Made i j heard)
-          (inr (rows_same r))
-      notifies fair (n.Ends count) idle (a, r) = idle_acts idle (acted_others t v reply i j a) (inr (rows_same r))
+          (none_comes _ _ (rows_same r))
+      notifies fair (n.Ends count) idle (a, r) =
+          idle_acts idle (acted_others t v reply i j a) (none_comes _ _ (rows_same r))
       notifies fair n.Invalid idle x = absurd x
 
       by_core : (fair : Bool) (k : Core) → c.core ≡ k → Stands i t c k → Turned (turn_by c.listed k) t v fair c reply i
@@ -443,7 +434,7 @@ module _ (i j : Joint) (h : IsWhole i) (fi : PartsFit i) (out : GiversAreOut i) 
           frame true (stays_open _ _ _ same) (var_others t v i j a b at vars (begun_others t c a b begins))
           (set_backs (record { at = Some v; second = waits_by_second i t c }) x.seats)
           (idle_here (ap length x.seats
-          ∙ length-set i.seats t (record { at = Some v; second = waits_by_second i t c })) idle (inr same))
+          ∙ length-set i.seats t (record { at = Some v; second = waits_by_second i t c })) idle (none_comes _ _ same))
 
   late_at : (at : Option ℕ) → (seat_at i t).at ≡ at → IsLateAt at t i j → GiversAreOut j
   late_at None seat (x, vars, seats) = frame true (stays_open _ _ _ (ap inside x.became)) (same_others t i j vars)
@@ -465,14 +456,14 @@ module _ (i j : Joint) (h : IsWhole i) (fi : PartsFit i) (out : GiversAreOut i) 
           (λ queue. ap (λ (x : Core). is_in_front (told_by c (is_left queue) outside.Expired x).core) is
           ∙ expired_back q.phase)
       by_core' v c seat here (core.Notify q) is s heard seats same =
-          idle_here (ap length seats) (none_called v c seat here None seats q.phase s) (inr same)
+          idle_here (ap length seats) (none_called v c seat here None seats q.phase s) (none_comes _ _ same)
 
 low_of : (n t : ℕ) (b : Bool) → (nat_lt t n && b) ≡ true → t < n
 low_of n t b e = ltb-true t n (both_true (nat_lt t n) b e).0
 
 pub givers_stay_out : GiversStayOut
 givers_stay_out = record {
-  starts = λ j none v t m c here is within_it. none-some c (sym (none v t) ∙ here);
+  starts = λ j none v t m c here is. absurd (none-some c (sym (none v t) ∙ here));
   asks = λ t lock c i j h fi out may x. asked i j h fi out t (low_of _ t _ may) lock c
       (free_of i t (middle _ _ _ may)).0 x;
   calls = λ t v c i j h fi out may x. called i j h fi out t (low_of _ t _ may) v c (free_of i t (middle _ _ _ may)).1 x;

@@ -1,4 +1,5 @@
 -- A machine stays whole where a step changes only what some threads have, and each of these stands as its wait says.
+use Rattle.parking_lot_machine_waits.specs.Joint.{is_open_at_locks}
 use Rattle.std.proofs.Common.{◌≡◌, ◌≢◌, ◌⊎◌, ◌||◌, inl, inr, ℕ, zero, suc, ◌+◌, ◌-◌, ◌*◌, ◌==◌, ◌<◌, ◌≤◌, Bool, true}
 use Rattle.std.proofs.Common.{false, not, cond, List, [], ◌∷◌, length, Option, Some, None, option_map, slice_get}
 use Rattle.std.proofs.Common.{slice_set, refl, sym, ap, ◌∙◌, subst, arith, eq-eqb, eqb-true}
@@ -124,7 +125,7 @@ HoldsWhole s = (k m : ℕ) → slice_get s.kinds m ≡ Some kind.Mutex → (excl
     ⊎ (owns_nothing (hold_at s k m) ≡ true)
 
 pub record AreShut (j : Joint) : Type 0 where
-  pub sections : ((state j.rows).lot.section ≡ None) ⊎ (is_open_at_variables j ≡ false)
+  pub sections : (is_open_at_locks j ≡ false) ⊎ (is_open_at_variables j ≡ false)
   pub alone : (v u : ℕ) → is_entered_at j v ≡ true → is_entered_at j u ≡ true → v ≡ u
 
 -- THE NUMBERS OF THE OTHERS
@@ -439,7 +440,7 @@ module _ (i j : Joint) (h : IsWhole i) (fewer : (v : ℕ) → is_entered_at j v 
   shut_still false e shut = e
 
   -- no variable's section is open that wasn't
-  pub fewer_open : ((state j.rows).lot.section ≡ None) ⊎ (is_open_at_variables i ≡ false) → AreShut j
+  pub fewer_open : (is_open_at_locks j ≡ false) ⊎ (is_open_at_variables i ≡ false) → AreShut j
   fewer_open sections = record {
     sections = elim sections [ inl e ↦ inl e | inr e ↦ inr (shut_still (is_open_at_variables j) refl e) ];
     alone = λ v u a b. h.alone v u (fewer v a) (fewer u b);
@@ -448,7 +449,7 @@ module _ (i j : Joint) (h : IsWhole i) (fewer : (v : ℕ) → is_entered_at j v 
 -- a variable is written, and its section is open only if it was
 pub var_shut : (i j : Joint) → IsWhole i → (v : ℕ) (x y : Var) → var_at i v ≡ Some x
     → j.vars ≡ slice_set i.vars v (Some y) → (is_entered (Some y) ≡ true → is_entered (Some x) ≡ true)
-    → ((state j.rows).lot.section ≡ None) ⊎ (is_open_at_variables i ≡ false) → AreShut j
+    → (is_open_at_locks j ≡ false) ⊎ (is_open_at_variables i ≡ false) → AreShut j
 var_shut i j h v x y at vars less sections = fewer_open i j h (λ w e. go w (w == v) refl e) sections
   where
     go : (w : ℕ) (b : Bool) → (w == v) ≡ b → is_entered_at j w ≡ true → is_entered_at i w ≡ true
@@ -460,7 +461,7 @@ var_shut i j h v x y at vars less sections = fewer_open i j h (λ w e. go w (w =
 
 -- one is open, where none was
 pub now_open : (i j : Joint) (v : ℕ) (x : Var) (y : Option Var) → var_at i v ≡ Some x → j.vars ≡ slice_set i.vars v y
-    → (state j.rows).lot.section ≡ None → is_open_at_variables i ≡ false → AreShut j
+    → is_open_at_locks j ≡ false → is_open_at_variables i ≡ false → AreShut j
 now_open i j v x y at vars locks shut =
     record { sections = inl locks; alone = λ w u a b. here w (w == v) refl a ∙ sym (here u (u == v) refl b) }
   where

@@ -1,4 +1,7 @@
 -- What a step leaves as it was: the locks and variables, where calls are, who is in one, and closed sections.
+use Rattle.parking_lot_machine_waits.proofs.AnySections.{joined_shut}
+use Rattle.parking_lot_machine.specs.Rows.{first_key}
+use Rattle.parking_lot_machine_waits.specs.Joint.{any_section}
 use Rattle.std.proofs.Common.{◌≡◌, ◌⊎◌, inl, inr, ℕ, zero, suc, Bool, false, List, [], ◌∷◌, Option, Some, None}
 use Rattle.std.proofs.Common.{slice_get, slice_set, refl, sym, ap, ◌∙◌, subst}
 use Rattle.std.proofs.lemmas.Option.{none-some, same_Some}
@@ -49,7 +52,7 @@ pub record Left (P : ℕ → Type 0) (asked : Option ℕ) (enters : Bool) (s u :
   pub kinds : u.kinds ≡ s.kinds
   pub calls : (k : ℕ) (d : Call) → call_at u k ≡ Some d → WasThere asked s d.lock
   pub fresh : (k : ℕ) → call_at s k ≡ None → (call_at u k ≡ None) ⊎ P k
-  pub shut : enters ≡ false → s.lot.section ≡ None → u.lot.section ≡ None
+  pub shut : enters ≡ false → any_section s ≡ false → any_section u ≡ false
 
 module _ (P : ℕ → Type 0) (asked : Option ℕ) where
   pub left_same : (enters : Bool) (s u : State) → u ≡ s → Left P asked enters s u
@@ -125,7 +128,8 @@ module _ (P : ℕ → Type 0) (asked : Option ℕ) where
 
   -- or that was in none, and now is at that lock
   left_written : (enters : Bool) (s u : State) (t : ℕ) (d : Call) → P t → WasThere asked s d.lock → u.kinds ≡ s.kinds
-      → u.calls ≡ slice_set s.calls t (Some d) → (s.lot.section ≡ None → u.lot.section ≡ None) → Left P asked enters s u
+      → u.calls ≡ slice_set s.calls t (Some d) → (any_section s ≡ false → any_section u ≡ false)
+      → Left P asked enters s u
   left_written enters s u t d p there kinds calls shut = record {
     kinds = kinds;
     calls = λ k f is. elim (set_or s.calls t k (Some d) f (ap (λ cs. call_of cs k) (sym calls) ∙ is)) [
@@ -142,19 +146,20 @@ module _ (P : ℕ → Type 0) (asked : Option ℕ) where
       → rows.IsBegun t lock c s u → Left P asked enters s u
   left_begun enters s u t lock c p there x =
       left_written enters s u t _ p there (ap (λ (y : State). y.kinds) x.became) (ap (λ (y : State). y.calls) x.became)
-      (λ o. ap (λ (y : State). y.lot.section) x.became ∙ o)
+      (λ o. ap any_section x.became ∙ o)
 
   left_taken : (enters : Bool) (s u : State) (v lock : ℕ) (timed : Bool) → P v → IsTakenIn v lock timed s u
       → Left P asked enters s u
   left_taken enters s u v lock timed p x =
       left_written enters s u v (sleeping_call lock timed) p (inr (inl x.kind)) (ap (λ (y : State). y.kinds) x.became)
-      (ap (λ (y : State). y.calls) x.became) (λ o. x.free)
+      (ap (λ (y : State). y.calls) x.became)
+      (λ o. ap any_section x.became ∙ joined_shut s.lot (first_key lock) o v)
 
   pub left_roused : (enters : Bool) (s u : State) (v lock : ℕ) (timed : Bool) → P v → IsRousedIn v lock timed s u
       → Left P asked enters s u
   left_roused enters s u v lock timed p x =
       left_written enters s u v (retrying_call lock timed) p (inr (inl x.kind)) (ap (λ (y : State). y.kinds) x.became)
-      (ap (λ (y : State). y.calls) x.became) (λ o. x.free)
+      (ap (λ (y : State). y.calls) x.became) (λ o. ap any_section x.became ∙ o)
 
   abbrev pub OfEach : List (ℕ × Bool) → Type 0
   OfEach [] = Unit {0}

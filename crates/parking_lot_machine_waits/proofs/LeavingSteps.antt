@@ -233,14 +233,10 @@ module _ (i j : Joint) (t : ℕ) (asked : Option ℕ) (e er ev : Bool)
       by_free false e less used = ap not e
       by_free true e less used = absurd (not_both (is_free j u) (free_still u ne less e) used)
 
-  shut_of : {X : Type 0} (o : Option X) → is_some o ≡ false → o ≡ None
-  shut_of None e = refl
-  shut_of (Some x) e = absurd cc
-
   stay_closed : e ≡ false → is_open i ≡ false → is_open j ≡ false
   stay_closed out closed =
       let (locks, variables) = either_false _ _ closed in
-      or_false _ _ (ap is_some (rows.shut (locks_out out) (shut_of (state i.rows).lot.section locks)))
+      or_false _ _ (rows.shut (locks_out out) locks)
       (vars.shut (vars_out out) variables)
 
   pub leaves : Leaves t e asked i j

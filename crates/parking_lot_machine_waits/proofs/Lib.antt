@@ -1,3 +1,4 @@
+mod AnySections
 pub mod Owning
 pub mod KeptWhole
 pub mod NewWhole
@@ -32,8 +33,8 @@ pub mod RankParts
 pub mod Ranking
 pub mod RankOthers
 pub mod RankFew
+mod Awake
 pub mod Progress
 pub mod Sections
 pub mod Givers
-pub mod OpenGoes
 pub mod MovingRuns

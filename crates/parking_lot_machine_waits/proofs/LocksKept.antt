@@ -1,5 +1,7 @@
 -- What one in no call at a variable does at the locks leaves a machine whole: it begins a call, makes a step, or its
 -- deadline comes.
+use Rattle.parking_lot_machine_waits.specs.Joint.{any_section}
+use Rattle.parking_lot_machine_waits.specs.Joint.{is_open_at_locks}
 use Rattle.std.proofs.Common.{◌≡◌, ◌≢◌, ◌⊎◌, inl, inr, ℕ, zero, suc, ◌+◌, ◌*◌, ◌==◌, ◌<◌, Bool, true, false, not, cond}
 use Rattle.std.proofs.Common.{nat_lt, ◌&&◌, is_some, is_none, List, [], ◌∷◌, length, Option, Some, None, option_map}
 use Rattle.std.proofs.Common.{slice_get, slice_set, refl, sym, ap, ◌∙◌, subst, arith, eqb-true}
@@ -75,15 +77,15 @@ kept_holds s u kinds holds h k n kind =
 -- SECTIONS
 
 -- where the variables are the same
-pub same_shut : (i j : Joint) → IsWhole i → j.vars ≡ i.vars → ((state j.rows).lot.section ≡ None)
+pub same_shut : (i j : Joint) → IsWhole i → j.vars ≡ i.vars → (is_open_at_locks j ≡ false)
     ⊎ (is_open_at_variables i ≡ false) → AreShut j
 same_shut i j h vars sections =
     fewer_open i j h (λ v e. ap (λ (vs : List (Option Var)). is_entered (var_in vs v)) (sym vars) ∙ e) sections
 
 -- where no section of a lock is opened
 pub written_sections : (i j : Joint) (k : ℕ) (c : Call) → IsWhole i → state j.rows ≡ with_call (state i.rows) k c
-    → ((state j.rows).lot.section ≡ None) ⊎ (is_open_at_variables i ≡ false)
-written_sections i j k c h e = subst (λ (y : State). (y.lot.section ≡ None) ⊎ (is_open_at_variables i ≡ false)) (sym e)
+    → (is_open_at_locks j ≡ false) ⊎ (is_open_at_variables i ≡ false)
+written_sections i j k c h e = subst (λ (y : State). (any_section y ≡ false) ⊎ (is_open_at_variables i ≡ false)) (sym e)
     h.sections
 
 -- TWO NUMBERS
@@ -128,7 +130,7 @@ module _ (i j : Joint) (t : ℕ) (h : IsWhole i) (low : t < length i.seats) (fre
   -- one of its numbers is in another call then, and the other in none
   pub free_whole : (b : Bool) → RowsKept i j (is t) → row_call_at (state j.rows) (number i t (not b)) ≡ None
       → ((c : Call) → row_call_at (state j.rows) (number i t b) ≡ Some c → var_at i c.lock ≡ None)
-      → HoldsWhole (state j.rows) → ((state j.rows).lot.section ≡ None) ⊎ (is_open_at_variables i ≡ false) → IsWhole j
+      → HoldsWhole (state j.rows) → (is_open_at_locks j ≡ false) ⊎ (is_open_at_variables i ≡ false) → IsWhole j
   free_whole b rows other own holds sections =
       whole_still i j (is t) h
       (record { rows = rows; vars = vars_same i j (is t) vars; seats = seats_same i j (is t) seats; low = low_of })
@@ -320,8 +322,8 @@ over_holds s u t a fits x h = subst HoldsWhole (sym x.became) at
         by false e was = was
 
 -- no section of a variable is open beside one of a lock, where none is entered beside another
-pub one_section : {X : Type 0} (enters beside : Bool) (o p : Option X) → (enters ≡ false → o ≡ None → p ≡ None)
-    → not (enters && beside) ≡ true → (o ≡ None) ⊎ (beside ≡ false) → (p ≡ None) ⊎ (beside ≡ false)
+pub one_section : (enters beside o p : Bool) → (enters ≡ false → o ≡ false → p ≡ false)
+    → not (enters && beside) ≡ true → (o ≡ false) ⊎ (beside ≡ false) → (p ≡ false) ⊎ (beside ≡ false)
 one_section enters beside o p closed may (inr shut) = inr shut
 one_section false beside o p closed may (inl none) = inl (closed refl none)
 one_section true true o p closed may (inl none) = absurd cc
@@ -347,7 +349,7 @@ module _ (i j : Joint) (t : ℕ) (h : IsWhole i) (fits : FitsTogether (state i.r
       free_whole i j t h low free vars seats b (rows_by i j t b x.calls.count x.kinds (λ k ne. kept_stays s u x k))
       (none_still s u _ (kept_stays s u x _) other)
       (λ c here. still_clear _ c (kept_same s u x _).place here) (kept_holds s u x.kinds x.holds h.holds)
-      (one_section enters (is_open_at_variables i) s.lot.section u.lot.section x.closed may h.sections)
+      (one_section enters (is_open_at_variables i) (any_section s) (any_section u) x.closed may h.sections)
   went b other (Some a) enters may x =
       free_whole i j t h low free vars seats b
       (rows_by i j t b (ap (λ (y : State). length y.calls) x.became ∙ length-set s.calls (number i t b) None)
@@ -357,7 +359,7 @@ module _ (i j : Joint) (t : ℕ) (h : IsWhole i) (fits : FitsTogether (state i.r
       (sym (ap (λ (y : State). row_call_at y (number i t b)) x.became ∙ call_here s.calls (number i t b) None
       (number_low i h t b low)) ∙ here)))
       (over_holds s u (number i t b) a fits x h.holds)
-      (subst (λ (y : State). (y.lot.section ≡ None) ⊎ (is_open_at_variables i ≡ false)) (sym x.became) h.sections)
+      (subst (λ (y : State). (any_section y ≡ false) ⊎ (is_open_at_variables i ≡ false)) (sym x.became) h.sections)
 
   pub step_keeps : (fair : Bool) (a : Option CoreAnswer) → row_goes i (busy_number i t) ≡ true
       → rows.IsStepped (busy_number i t) fair a s u → IsWhole j

@@ -1,4 +1,6 @@
 -- Whom a notification takes may be moved to the mutex, one after another.
+use Rattle.parking_lot_machine.specs.Rows.{first_key}
+use Rattle.parking_lot_machine.specs.Rows.{open_at}
 use Rattle.std.proofs.Common.{◌≡◌, ◌≢◌, ℕ, zero, suc, ◌+◌, ◌-◌, ◌%◌, ◌==◌, ◌<◌, ◌≤◌, Bool, true, false, not, cond}
 use Rattle.std.proofs.Common.{nat_lt, ◌&&◌, is_some, is_none, List, [], ◌∷◌, length, take, Option, Some, None}
 use Rattle.std.proofs.Common.{slice_get, slice_set, refl, sym, ap, ◌∙◌, subst, arith, eqb-true}
@@ -43,7 +45,8 @@ asks n o kinds holds w lock = nat_lt w n
     call.Lock))
 
 still : (s u : State) (v w lock : ℕ) (c : Call) → u.calls ≡ slice_set s.calls v (Some c) → u.kinds ≡ s.kinds
-    → u.holds ≡ s.holds → u.lot.section ≡ None → w ≢ v → may_rouse_in s w lock ≡ true → may_rouse_in u w lock ≡ true
+    → u.holds ≡ s.holds → open_at u (first_key lock) ≡ None → w ≢ v → may_rouse_in s w lock ≡ true
+    → may_rouse_in u w lock ≡ true
 still s u v w lock c calls kinds holds free ne may =
     let was = both_true _ _ may in
     both _ _

@@ -1,4 +1,5 @@
 -- A wait's steps of giving its mutex up and of locking it again leave a machine whole, and so does its deadline.
+use Rattle.parking_lot_machine_waits.specs.Joint.{any_section}
 use Rattle.std.proofs.Common.{◌≡◌, ◌⊎◌, ℕ, Bool, true, false, not, ◌&&◌, length, Option, Some, None, refl, sym, ap, ◌∙◌}
 use Rattle.std.proofs.Common.{subst}
 use Rattle.std.specs.Option.{option_map_or}
@@ -57,11 +58,12 @@ module _ (i j : Joint) (t v : ℕ) (c : OpenCall) (p : WaitPhase) (h : IsWhole i
 
     -- no section of a variable is open beside one of a lock then
     pub went_sections : (b enters : Bool) (a : Option CoreAnswer) → not (enters && is_open_at_variables i) ≡ true
-        → Goes a enters (number i t b) s u → (u.lot.section ≡ None) ⊎ (is_open_at_variables i ≡ false)
-    went_sections b enters None may x = one_section enters (is_open_at_variables i) s.lot.section u.lot.section x.closed
+        → Goes a enters (number i t b) s u → (any_section u ≡ false) ⊎ (is_open_at_variables i ≡ false)
+    went_sections b enters None may x =
+        one_section enters (is_open_at_variables i) (any_section s) (any_section u) x.closed
         may h.sections
     went_sections b enters (Some a) may x =
-        subst (λ (y : State). (y.lot.section ≡ None) ⊎ (is_open_at_variables i ≡ false)) (sym x.became) h.sections
+        subst (λ (y : State). (any_section y ≡ false) ⊎ (is_open_at_variables i ≡ false)) (sym x.became) h.sections
 
     pub went_rows : (b enters : Bool) (a : Option CoreAnswer) → Goes a enters (number i t b) s u → RowsKept i j (is t)
     went_rows b enters None x = rows_by i j t b x.calls.count x.kinds (λ k ne. kept_stays s u x k)
@@ -74,7 +76,7 @@ module _ (i j : Joint) (t v : ℕ) (c : OpenCall) (p : WaitPhase) (h : IsWhole i
     went_holds b enters (Some a) x = over_holds s u (number i t b) a fits.rows x h.holds
 
     -- its call there goes on, and it stands as it stood
-    pub goes_there : (enters : Bool) → RowsKept i j (is t) → HoldsWhole u → (u.lot.section ≡ None)
+    pub goes_there : (enters : Bool) → RowsKept i j (is t) → HoldsWhole u → (any_section u ≡ false)
         ⊎ (is_open_at_variables i ≡ false) → Kept enters s u → j.vars ≡ i.vars → IsWhole j
     goes_there enters rows holds sections x vars =
         stays_there i j t v c h here seats rows holds (same_shut i j h vars sections) vars
@@ -210,7 +212,7 @@ module _ (i j : Joint) (t v : ℕ) (c : OpenCall) (h : IsWhole i) (fits : PartsF
       let stood = stood i j t v c (w.Sleeps n) h fits here core_is in
       heard_whole i j t v c (w.Sleeps n) h fits here core_is seats rows
       (subst (λ (r : Rows). HoldsWhole (state r)) (sym same_rows) h.holds)
-      (subst (λ (r : Rows). ((state r).lot.section ≡ None) ⊎ (is_open_at_variables i ≡ false)) (sym same_rows)
+      (subst (λ (r : Rows). (any_section (state r) ≡ false) ⊎ (is_open_at_variables i ≡ false)) (sym same_rows)
       h.sections) outside.Expired hears
       (λ plain. stands_at i j t v c (w.Sleeps n) h fits here core_is (w.Expires n) rows plain stood.names
       (front_still i j t seats Away (mutex_of c.call) (all_stay (front_number i t)) stood.front)

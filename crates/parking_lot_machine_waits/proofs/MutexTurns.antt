@@ -1,4 +1,5 @@
 -- What a wait does at its mutex leaves a machine whole: it gives it up, and locks it again.
+use Rattle.parking_lot_machine_waits.specs.Joint.{any_section}
 use Rattle.std.proofs.Common.{◌≡◌, ◌≢◌, ◌⊎◌, ℕ, ◌+◌, ◌<◌, Bool, true, false, not, cond, is_some, List, length, Option}
 use Rattle.std.proofs.Common.{Some, None, slice_get, slice_set, refl, sym, ap, ◌∙◌, subst}
 use Rattle.std.specs.Option.{unwrap_or}
@@ -126,7 +127,7 @@ module _ (i j : Joint) (t v : ℕ) (c : OpenCall) (p : WaitPhase) (h : IsWhole i
   -- TOLD OF WHAT WAS DONE THERE
 
   module _ (seats : j.seats ≡ i.seats) (rows : RowsKept i j (is t)) (holds : HoldsWhole u)
-      (sections : (u.lot.section ≡ None) ⊎ (is_open_at_variables i ≡ false)) where
+      (sections : (any_section u ≡ false) ⊎ (is_open_at_variables i ≡ false)) where
     abbrev Stood : OpenCall → Type 0
     Stood d = Stands j t d d.core
 
@@ -159,7 +160,7 @@ module _ (i j : Joint) (t v : ℕ) (c : OpenCall) (p : WaitPhase) (h : IsWhole i
   -- AN ACT AT THE VARIABLE, WHICH LEAVES ITS SECTION
 
   module _ (rows : RowsKept i j (is t)) (holds : HoldsWhole u)
-      (sections : (u.lot.section ≡ None) ⊎ (is_open_at_variables i ≡ false)) (reply : Option CondvarReply)
+      (sections : (any_section u ≡ false) ⊎ (is_open_at_variables i ≡ false)) (reply : Option CondvarReply)
       (seats : j.seats ≡ freed t reply i.seats) (q : WaitPhase)
       (goes : (x : Var) → wait_goes c (record { phase = p })
       (wait_sees x.word (is_left (queue_after_wait t p x.queue)) p) p ≡ Some (with_phase c q))

@@ -1,4 +1,7 @@
 -- A machine where nobody has done anything is whole.
+use Rattle.parking_lot_machine_waits.specs.Joint.{any_section}
+use Rattle.parking_lot_machine_waits.proofs.AnySections.{none_open}
+use Rattle.parking_lot_core_model.specs.Buckets.{buckets_for, threads_with}
 use Rattle.std.proofs.Common.{◌≡◌, inl, inr, ℕ, zero, suc, ◌+◌, ◌*◌, Bool, true, false, cond, nat_lt, List, [], ◌∷◌}
 use Rattle.std.proofs.Common.{◌++◌, length, map, replicate, Option, Some, None, slice_get, refl, sym, ap, ◌∙◌}
 use Rattle.std.specs.Option.{option_and_then, option_map_or, unwrap_or}
@@ -47,7 +50,7 @@ rests n (false ∷ vs) zero x e = absurd (none-some x e)
 rests n (b ∷ vs) (suc v) x e = rests n vs v x e
 
 module _ (j : Joint) (n : ℕ) (kinds : List LockKind) (variables : List Bool)
-    (rows : state j.rows ≡ at_rest (2 * n) kinds) (vars : j.vars ≡ map (var_of n) variables)
+    (rows : state j.rows ≡ at_rest true (2 * n) kinds) (vars : j.vars ≡ map (var_of n) variables)
     (seats : j.seats ≡ replicate n nowhere) where
   var_rests : (v : ℕ) (x : Var) → var_at j v ≡ Some x → x ≡ var_at_rest n
   var_rests v x e = rests n variables v x (ap (λ (vs : List (Option Var)). var_in vs v) (sym vars) ∙ e)
@@ -77,7 +80,7 @@ module _ (j : Joint) (n : ℕ) (kinds : List LockKind) (variables : List Bool)
   owns k m = ap (λ (s : State). hold_at s k m) rows ∙ by (nat_lt m (length kinds))
     where
       by : (b : Bool) → cond b
-          (option_map_or (λ (h : Hold). h) (slice_get (at_rest (2 * n) kinds).holds (k * length kinds + m))
+          (option_map_or (λ (h : Hold). h) (slice_get (at_rest true (2 * n) kinds).holds (k * length kinds + m))
           (hold.Shares 0)) (hold.Shares 0) ≡ hold.Shares 0
       by true = read (λ (o : Option Hold). option_map_or (λ (h : Hold). h) o (hold.Shares 0)) (2 * n * length kinds)
           (k * length kinds + m) (hold.Shares 0) (hold.Shares 0) refl refl
@@ -99,7 +102,7 @@ module _ (j : Joint) (n : ℕ) (kinds : List LockKind) (variables : List Bool)
     one = λ t at. inl (no_call (number j t false));
     rows = λ k c here. absurd (none-some c (sym (no_call k) ∙ here));
     holds = λ k m e. inr (ap owns_nothing (owns k m));
-    sections = inl (ap (λ (s : State). s.lot.section) rows);
+    sections = inl (ap any_section rows ∙ none_open (buckets_for (threads_with true (2 * n))));
     alone = λ v u e f. both_ways (is_entered_at j v) e (not_entered v (var_at j v) refl);
   }
 

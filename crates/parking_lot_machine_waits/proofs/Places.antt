@@ -1,11 +1,11 @@
 -- What a step at the locks leaves of each number: the lock of its call, what its call is for, and what it owns.
-use Rattle.std.proofs.Common.{◌≡◌, ◌≢◌, inl, inr, ℕ, ◌+◌, ◌*◌, ◌==◌, ◌<◌, Bool, true, false, cond, nat_lt, List, length}
+use Rattle.std.proofs.Common.{◌||◌, ◌≡◌, ◌≢◌, inl, inr, ℕ, ◌+◌, ◌*◌, ◌==◌, ◌<◌, Bool, true, false, cond, nat_lt, List}
+use Rattle.std.proofs.Common.{length}
 use Rattle.std.proofs.Common.{Option, Some, None, option_map, slice_set, refl, sym, ap, ◌∙◌, subst, arith, eq-eqb}
 use Rattle.std.specs.Option.{option_map_or}
 use Rattle.std.proofs.lemmas.Bool.{cases_lt, ltb-true}
 use Rattle.std.proofs.lemmas.Nat.{mul-add-lt}
 use Rattle.std.proofs.lemmas.Option.{same_Some}
-use Rattle.parking_lot_core_model.specs.declared.place.Section.{Section}
 use Rattle.parking_lot_core_model.specs.Machine.{Machine}
 use Rattle.parking_lot_protocol.specs.declared.act.Act.{Act}
 use Rattle.parking_lot_protocol.specs.declared.act.ActResult.{ActResult}
@@ -19,16 +19,20 @@ use Rattle.parking_lot_machine_calls.specs.declared.seat.Core.{Core}
 use Rattle.parking_lot_machine_calls.specs.declared.seat.Hold.{Hold}
 use Rattle.parking_lot_machine_calls.specs.declared.seat.LatePhase.{LatePhase}
 use Rattle.parking_lot_machine_calls.specs.declared.seat.QueuePosition.{QueuePosition}
-use Rattle.parking_lot_machine.specs.LateActs.{came_back, quitted}
-use Rattle.parking_lot_machine_calls.specs.LateCalls.{found_as, is_handed}
+use Rattle.parking_lot_core_model.specs.Buckets.{any_open}
+use Rattle.parking_lot_core_model.specs.declared.place.Phase.{Phase}
+use Rattle.parking_lot_core_model.specs.Machine.{given_up, stored}
+use Rattle.parking_lot_machine.specs.LateActs.{came_back, others_left, out_of_list, quitted}
+use Rattle.parking_lot_machine_calls.specs.LateCalls.{found_as, is_handed, is_pending, late_key}
 use Rattle.parking_lot_machine.specs.Machines.{Became, BecameInside, BecameLate, IsStepped, end_of, sleeps}
-use Rattle.parking_lot_machine.specs.RowActs.{answered, loaded}
+use Rattle.parking_lot_machine.specs.RowActs.{answered, key_in, loaded}
 use Rattle.parking_lot_machine_calls.specs.CallActs.{hears, hold_after}
 use Rattle.parking_lot_machine.specs.RowFits.{FitsTogether, IsTaken}
 use Rattle.parking_lot_machine.specs.Rows.{State, call_at, hold_at, hold_in, word_at}
-use Rattle.parking_lot_machine_calls.specs.Stances.{Asleep, core_act, core_next, stance}
-use Rattle.parking_lot_machine_waits.specs.Joint.{core_enters, is_entry}
+use Rattle.parking_lot_machine_calls.specs.Stances.{Asleep, core_act, core_next, sign, stance}
+use Rattle.parking_lot_machine_waits.specs.Joint.{any_section, core_enters, is_entry}
 use Rattle.parking_lot_machine_waits.specs.Whole.{asks, place_of}
+use Rattle.parking_lot_machine_waits.proofs.AnySections.{close_shut, phase_shut, store_shut}
 use Rattle.parking_lot_machine_waits.proofs.Stages.{AllGo, Onward, Still, all_stay, all_told, both_ways, call_of, heard}
 use Rattle.parking_lot_machine_waits.proofs.Stages.{late_still, no_sort, one_goes, one_off, woken}
 use Rattle.parking_lot_rules.proofs.Slots.{set_elsewhere}
@@ -40,7 +44,7 @@ pub record Kept (b : Bool) (s u : State) : Type 0 where
   pub calls : AllGo s.calls u.calls
   pub holds : u.holds ≡ s.holds
   pub kinds : u.kinds ≡ s.kinds
-  pub closed : b ≡ false → s.lot.section ≡ None → u.lot.section ≡ None
+  pub closed : b ≡ false → any_section s ≡ false → any_section u ≡ false
 
 -- a call is over
 pub record Over (t : ℕ) (a : CoreAnswer) (s u : State) : Type 0 where
@@ -71,9 +75,6 @@ module _ (s : State) (t : ℕ) (c : Call) (fits : FitsTogether s) (here : call_a
   own ds go d lock still = one_goes s.calls ds t c (Some d) here go
       (record { call = d; here = refl; lock = lock; still = still })
 
-  abbrev none_of : (f : Section → Section) → s.lot.section ≡ None → option_map f s.lot.section ≡ None
-  none_of f e = ap (option_map f) e
-
   exchanges : {b : Bool} (from to : ℕ) (d : Bool) → (word_at s c.lock == from) ≡ d
       → core_act c.core ≡ Act.Exchange from to
       → (u : State) → (Still c.core (core_next c.core ActResult.Exchanged) → Kept b s u)
@@ -95,42 +96,42 @@ module _ (s : State) (t : ℕ) (c : Call) (fits : FitsTogether s) (here : call_a
         calls = own s.calls all _ refl (told _ _ _ a refl refl);
         holds = refl;
         kinds = refl;
-        closed = λ b o. none_of _ o;
+        closed = λ b o. phase_shut s.lot _ o _;
       })
   inside SectionAct.TakeFirst fair u a (k, stands, inl (nth, w, first, e)) =
       is u _ e (record {
         calls = own _ (one_off t w.thread s.calls) _ refl (told _ 0 _ a refl tt);
         holds = refl;
         kinds = refl;
-        closed = λ b o. none_of _ o;
+        closed = λ b o. phase_shut s.lot _ o _;
       })
   inside SectionAct.TakeFirst fair u a (k, stands, inr (empty, e)) =
       is u _ e (record {
         calls = own s.calls all _ refl (told _ 0 _ a refl tt);
         holds = refl;
         kinds = refl;
-        closed = λ b o. none_of _ o;
+        closed = λ b o. phase_shut s.lot _ o _;
       })
   inside (SectionAct.TakeNext sum) fair u a (k, stands, inl (nth, w, first, e)) =
       is u _ e (record {
         calls = own _ (one_off t w.thread s.calls) _ refl (told _ 0 _ a refl tt);
         holds = refl;
         kinds = refl;
-        closed = λ b o. none_of _ o;
+        closed = λ b o. phase_shut s.lot _ o _;
       })
   inside (SectionAct.TakeNext sum) fair u a (k, stands, inr (empty, e)) =
       is u _ e (record {
         calls = own s.calls all _ refl (told _ 0 _ a refl tt);
         holds = refl;
         kinds = refl;
-        closed = λ b o. none_of _ o;
+        closed = λ b o. phase_shut s.lot _ o _;
       })
   inside (SectionAct.Append token) fair u a (k, stands, e) =
       is u _ e (record {
         calls = own s.calls all _ refl (told _ 0 ActResult.Made a refl tt);
         holds = refl;
         kinds = refl;
-        closed = λ b o. none_of _ o;
+        closed = λ b o. phase_shut s.lot _ o _;
       })
   inside (SectionAct.Store plain handing) fair u a e =
       is u _ e (record {
@@ -138,14 +139,14 @@ module _ (s : State) (t : ℕ) (c : Call) (fits : FitsTogether s) (here : call_a
             all_told t _ s.calls _ (own s.calls all _ refl (told _ 0 (ActResult.Stored fair) a refl tt));
         holds = refl;
         kinds = refl;
-        closed = λ b o. none_of _ o;
+        closed = λ b o. store_shut s.lot _ o _;
       })
   inside SectionAct.Leave fair u a e =
       is u _ e (record {
         calls = own s.calls all _ refl (told _ 0 ActResult.Made a refl tt);
         holds = refl;
         kinds = refl;
-        closed = λ b o. refl;
+        closed = λ b o. close_shut s.lot (key_in c) o false;
       })
   inside SectionAct.Wake fair u a (inr (empty, e)) =
       is u _ e (record {
@@ -178,7 +179,8 @@ module _ (s : State) (t : ℕ) (c : Call) (fits : FitsTogether s) (here : call_a
             still = woken d.core taken.key taken.token token asleep;
           })
 
-  quits : (left : Bool) (l m : Machine) → l.section ≡ None → m.section ≡ None → (cond left l m).section ≡ None
+  quits : (left : Bool) (l m : Machine) → any_open l.sections l.buckets ≡ false → any_open m.sections m.buckets ≡ false
+      → any_open (cond left l m).sections (cond left l m).buckets ≡ false
   quits true l m a b = a
   quits false l m a b = b
 
@@ -201,7 +203,10 @@ module _ (s : State) (t : ℕ) (c : Call) (fits : FitsTogether s) (here : call_a
     calls = own s.calls all _ refl (still _);
     holds = refl;
     kinds = refl;
-    closed = λ b o. quits _ _ _ (ap (option_map _) (none_of _ o)) (none_of _ o);
+    closed = λ b o.
+        let out = phase_shut (given_up s.lot t (late_key c)) (late_key c) o Phase.Ended in
+        quits (others_left s t c || is_pending c.core) (stored (out_of_list s t c) (late_key c) (sign false))
+        (out_of_list s t c) (store_shut (out_of_list s t c) (late_key c) out (sign false)) out;
   }
 
   abbrev OfCore : Core → (Core → Core) → Type 0
@@ -259,7 +264,7 @@ module _ (s : State) (t : ℕ) (c : Call) (fits : FitsTogether s) (here : call_a
             (own s.calls all _ refl (told (Act.FetchAnd keep) _ (ActResult.Before _) asks refl refl));
         holds = refl;
         kinds = refl;
-        closed = λ b o. none_of _ o;
+        closed = λ b o. store_shut s.lot _ o _;
       })
   after Act.Spin fair u asks e =
       is u _ e (record {

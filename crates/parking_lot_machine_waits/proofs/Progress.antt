@@ -1,17 +1,24 @@
 -- Some thread can move, where one is in a call that doesn't wait for another.
-use Rattle.std.proofs.Common.{◌≡◌, ◌⊎◌, inl, inr, ℕ, zero, suc, ◌-◌, ◌<◌, ◌&&◌, ◌||◌, Bool, true, false, not, cond}
-use Rattle.std.proofs.Common.{is_none, is_some, List, [], ◌∷◌, length, Option, Some, None, slice_get, refl, sym, ap}
-use Rattle.std.proofs.Common.{◌∙◌, subst, arith, eq-eqb}
-use Rattle.std.specs.List.{list_any}
+use Rattle.std.proofs.Common.{◌≡◌, ◌⊎◌, inl, inr, ℕ, ◌-◌, ◌<◌, ◌&&◌, ◌||◌, Bool, true, false, not, is_none, is_some}
+use Rattle.std.proofs.Common.{length, Option, Some, None, slice_get, refl, sym, ap, ◌∙◌, subst, arith, eq-eqb}
 use Rattle.std.specs.Option.{option_and_then, option_map_or}
 use Rattle.std.proofs.lemmas.Bool.{cases_lt, lt-ltb}
-use Rattle.std.proofs.lemmas.Option.{none-some, same_Some}
+use Rattle.std.proofs.lemmas.Option.{none-some}
+use Rattle.parking_lot_machine_calls.specs.CallActs.{key_of}
+use Rattle.parking_lot_machine_calls.specs.LateCalls.{late_key}
+use Rattle.parking_lot_machine.specs.Rows.{open_at, State, call_at as row_call_at, state}
+use Rattle.parking_lot_machine_waits.specs.Joint.{core_enters, Joint, back_number, busy_by, busy_number, call_at}
+use Rattle.parking_lot_machine_waits.specs.Joint.{call_in, enters_at_lock, front_number, is_open_at_locks}
+use Rattle.parking_lot_machine_waits.specs.Joint.{is_open_at_variables, number, row_goes, seat_at, var_acts, var_at}
+use Rattle.parking_lot_machine_waits.specs.Joint.{var_goes}
+use Rattle.parking_lot_machine_waits.specs.JointProgress.{SomebodyInsideGoes, GiversAreOut, IsKeptOut, IsListed}
+use Rattle.parking_lot_machine_waits.specs.JointProgress.{SomebodyCanMove}
+use Rattle.parking_lot_machine_waits.specs.JointSides.{enters as thread_enters, enters_as, enters_at, turn_enters}
+use Rattle.parking_lot_machine_waits.specs.declared.turn.Turn.{Turn}
+use Rattle.parking_lot_machine_waits.specs.declared.turn.Turn.TheVariants as turn
+use Rattle.parking_lot_machine_waits.proofs.AnySections.{none_of_key, some_open}
+use Rattle.parking_lot_machine_waits.proofs.Hearing.{both_true}
 use Rattle.parking_lot_core_model.specs.declared.place.Section.{Section}
-use Rattle.parking_lot_protocol.specs.declared.act.Act.{Act}
-use Rattle.parking_lot_protocol.specs.declared.act.CoreAnswer.{CoreAnswer}
-use Rattle.parking_lot_protocol.specs.declared.mutex_phase.MutexPhase.{MutexPhase}
-use Rattle.parking_lot_protocol.specs.declared.mutex_phase.MutexPhase.TheVariants as m
-use Rattle.parking_lot_protocol.specs.MutexTable as of_mutex
 use Rattle.parking_lot_protocol_waits.specs.declared.notify_core.NotifyPhase.{NotifyPhase}
 use Rattle.parking_lot_protocol_waits.specs.declared.notify_core.NotifyPhase.TheVariants as n
 use Rattle.parking_lot_protocol_waits.specs.declared.wait_act.WaitAnswer.{WaitAnswer}
@@ -28,118 +35,46 @@ use Rattle.parking_lot_machine_sides.specs.Condvar.Turns.{notify_is_inside, wait
 use Rattle.parking_lot_machine_sides.proofs.CondvarFacts.Slots.{slot, within}
 use Rattle.parking_lot_machine_calls.specs.declared.open_call.Call.{Call}
 use Rattle.parking_lot_machine_calls.specs.declared.seat.Core.{Core as RowCore}
-use Rattle.parking_lot_machine_calls.specs.declared.seat.Core.TheVariants as row_core
-use Rattle.parking_lot_machine.specs.Machines.{can_move, can_move_in, is_asleep, is_asleep_in, sleeps}
+use Rattle.parking_lot_machine.specs.Machines.{can_move, can_move_in, is_asleep, is_asleep_in}
 use Rattle.parking_lot_machine.proofs.InTime.{awake_in_time}
-use Rattle.parking_lot_machine.specs.Rows.{State, call_at as row_call_at, inside, state}
 use Rattle.parking_lot_machine.specs.SoundLaws.{Always, AwakeCanMove, SomebodyCanMove as RowSomebodyCanMove}
-use Rattle.parking_lot_machine_calls.specs.Stances.{core_act}
 use Rattle.parking_lot_machine.proofs.Carrying.{call_within}
 use Rattle.parking_lot_machine.proofs.Serving.{goes_on}
-use Rattle.parking_lot_machine_waits.specs.Joint.{Joint, back_number, busy_by, busy_number, call_at, call_in}
-use Rattle.parking_lot_machine_waits.specs.Joint.{enters_at_lock, front_number, is_entered, is_open_at_locks}
-use Rattle.parking_lot_machine_waits.specs.Joint.{is_open_at_variables, number, row_goes, seat_at, var_acts, var_at}
-use Rattle.parking_lot_machine_waits.specs.Joint.{var_goes}
 use Rattle.parking_lot_machine_waits.specs.JointLaws.{PartsFit}
 use Rattle.parking_lot_machine_waits.specs.JointMoves.{is_free, may_go, may_go_as, may_go_at, may_turn}
-use Rattle.parking_lot_machine_waits.specs.JointProgress.{GiversAreOut, IsKeptOut, IsListed, SomebodyCanMove}
 use Rattle.parking_lot_machine_waits.specs.JointSteps.{KnownIn}
 use Rattle.parking_lot_machine_waits.specs.Turns.{notify_turn, turn_by, turn_of, wait_turn}
 use Rattle.parking_lot_machine_waits.specs.Whole.{AtMutex, Asks, IsIn, IsSo, IsWhole, Notifies, Stands, Waits, asks}
 use Rattle.parking_lot_machine_waits.specs.Whole.{asks_on, back_at_end, back_of, front_at_end, front_of, gives}
-use Rattle.parking_lot_machine_waits.specs.Whole.{phase_gives}
 use Rattle.parking_lot_machine_waits.proofs.RankParts.{idle_of}
+use Rattle.parking_lot_machine_waits.proofs.Awake.{goes_anyway, may_act, and_too, outside_too, not_strict, not_entering}
+use Rattle.parking_lot_machine_waits.proofs.Awake.{inside_enters_none, giver_awake, open_somewhere, shut_each, some_of}
 
--- BOOLS
-
-goes_anyway : (a e o : Bool) → a ≡ true → o ≡ false → (a && not (e && o)) ≡ true
-goes_anyway true true true x y = absurd cc
-goes_anyway true true false x y = refl
-goes_anyway true false o x y = refl
-goes_anyway false e o x y = absurd cc
-
-may_act : (own e n l : Bool) → own ≡ true → (e ≡ false) ⊎ ((n ≡ true) × (l ≡ false))
-    → ((own && (not e || n)) && not (e && l)) ≡ true
-may_act true true n l x (inl y) = absurd cc
-may_act true false n l x (inl y) = refl
-may_act true true true true x (inr (y, z)) = absurd cc
-may_act true true true false x (inr (y, z)) = refl
-may_act true true false l x (inr (y, z)) = absurd cc
-may_act true false n l x (inr (y, z)) = refl
-may_act false e n l x y = absurd cc
-
--- WHO IS AWAKE
-
-gives_awake : (p : MutexPhase) → phase_gives p ≡ true → sleeps (of_mutex.act_of p) ≡ false
-gives_awake m.Sleeps e = absurd cc
-gives_awake (m.Finishes g) e = either g.again
-  where
-    either : (b : Bool) → sleeps (cond b Act.Load (Act.Done CoreAnswer.Released)) ≡ false
-    either true = refl
-    either false = refl
-gives_awake p e = refl
-
-giver_awake : (k : RowCore) → gives k ≡ true → sleeps (core_act k) ≡ false
-giver_awake (row_core.Mutex c) e = gives_awake c.phase e
-giver_awake (row_core.Late p) e = absurd cc
-giver_awake (row_core.Rw c) e = absurd cc
-giver_awake (row_core.LateRw p) e = absurd cc
-giver_awake (row_core.Upgrade c) e = absurd cc
-
--- a variable whose section is open
-open_somewhere : (vars : List (Option Var)) → list_any is_entered vars ≡ true → (v : ℕ) × (x : Var)
-    × (slice_get vars v ≡ Some (Some x)) × (is_some x.inside ≡ true)
-open_somewhere [] e = absurd cc
-open_somewhere (None ∷ vars) e = (let (v, x, at, some) = open_somewhere vars e in (suc v, x, at, some))
-open_somewhere (Some x ∷ vars) e = go (is_some x.inside) refl (λ f. open_somewhere vars f)
-  where
-    go : (b : Bool) → is_some x.inside ≡ b
-        → (list_any is_entered vars ≡ true → (v : ℕ) × (y : Var) × (slice_get vars v ≡ Some (Some y))
-        × (is_some y.inside ≡ true)) → (v : ℕ) × (y : Var) × (slice_get (Some x ∷ vars) v ≡ Some (Some y))
-        × (is_some y.inside ≡ true)
-    go true is others = (zero, x, refl, is)
-    go false is others =
-        (let (v, y, at, some) = others (sym (ap (λ b. b || list_any is_entered vars) is) ∙ e) in (suc v, y, at, some))
-
--- and none is
-shut_each : (vars : List (Option Var)) (v : ℕ) (x : Var) → list_any is_entered vars ≡ false
-    → slice_get vars v ≡ Some (Some x) → x.inside ≡ None
-shut_each [] v x e at = absurd (none-some (Some x) at)
-shut_each (o ∷ vars) zero x e at =
-    go x.inside (first (is_some x.inside)
-    (sym (ap (λ p. is_entered p || list_any is_entered vars) (same_Some o (Some x) at)) ∙ e))
-  where
-    first : (b : Bool) → (b || list_any is_entered vars) ≡ false → b ≡ false
-    first true e = absurd cc
-    first false e = refl
-
-    go : (p : Option ℕ) → is_some p ≡ false → p ≡ None
-    go None e = refl
-    go (Some u) e = absurd cc
-shut_each (o ∷ vars) (suc v) x e at = shut_each vars v x (later (is_entered o) e) at
-  where
-    later : (b : Bool) → (b || list_any is_entered vars) ≡ false → list_any is_entered vars ≡ false
-    later true e = absurd cc
-    later false e = e
-
-some_of : {X : Type 0} (o : Option X) → is_some o ≡ true → (x : X) × (o ≡ Some x)
-some_of None e = absurd cc
-some_of (Some x) e = (x, refl)
-
-module _ (j : Joint) (h : IsWhole j) (fits : PartsFit j) where
+-- A thread may go, and where it is to be strict, it enters no section.
+module _ (j : Joint) (h : IsWhole j) (fits : PartsFit j) (strict : Bool) where
   abbrev s : State
   s = state j.rows
 
+  abbrev goes_as : ℕ → Bool
+  goes_as u = may_go j u && not (thread_enters j u && strict)
+
+  abbrev turn_as : Turn → ℕ → ℕ → OpenCall → Bool
+  turn_as x t v c = may_turn x j t v c && not (turn_enters x j t c && strict)
+
+  abbrev row_as : ℕ → Bool
+  row_as k = row_goes j k && not (enters_at_lock j k && strict)
+
   abbrev Somebody : Type 0
-  Somebody = (u : ℕ) × (may_go j u ≡ true)
+  Somebody = (u : ℕ) × (goes_as u ≡ true)
 
   -- a thread whose turn can be taken
-  turns : (t v : ℕ) (c : OpenCall) → t < length j.seats → call_at j v t ≡ Some c → may_turn (turn_of c) j t v c ≡ true
-      → may_go j t ≡ true
+  turns : (t v : ℕ) (c : OpenCall) → t < length j.seats → call_at j v t ≡ Some c → turn_as (turn_of c) t v c ≡ true
+      → goes_as t ≡ true
   turns t v c low here goes =
-      ap (λ b. b && may_go_at (seat_at j t).at j t) (lt-ltb t (length j.seats) low)
-      ∙ ap (λ (o : Option ℕ). may_go_at o j t) (h.seated v t c here)
-      ∙ ap (λ (o : Option OpenCall). may_go_as o j t v) here
+      ap (λ b. (b && may_go_at (seat_at j t).at j t) && not ((b && enters_at (seat_at j t).at j t) && strict))
+      (lt-ltb t (length j.seats) low)
+      ∙ ap (λ (o : Option ℕ). may_go_at o j t && not (enters_at o j t && strict)) (h.seated v t c here)
+      ∙ ap (λ (o : Option OpenCall). may_go_as o j t v && not (enters_as o j t && strict)) here
       ∙ goes
 
   -- it makes its own act at the variable
@@ -163,20 +98,27 @@ module _ (j : Joint) (h : IsWhole j) (fits : PartsFit j) where
 
   module _ (t v : ℕ) (c : OpenCall) (x : Var) (at : var_at j v ≡ Some x) (here : call_at j v t ≡ Some c) where
     acts_in : (k : Core) → c.core ≡ k → is_own_by c.listed k ≡ true → enters_by c.listed k ≡ false
-        → var_goes j t c (var_at j v) ≡ true
-    acts_in k is own outside = acts t v c x at here (ap (is_own_by c.listed) is ∙ own) (inl (ap (enters_by c.listed) is ∙ outside))
+        → turn_as turn.Acts t v c ≡ true
+    acts_in k is own outside =
+        let out = ap (enters_by c.listed) is ∙ outside in
+        outside_too (var_goes j t c (var_at j v)) (enters c) strict
+        (acts t v c x at here (ap (is_own_by c.listed) is ∙ own) (inl out)) out
+
+    -- a turn that begins a call at the mutex enters none
+    gives_on : turn_as turn.Acts t v c ≡ true → (var_goes j t c (var_at j v) && true) ≡ true
+    gives_on goes = and_too (var_goes j t c (var_at j v)) false (both_true _ _ goes).0 refl
 
     wait_inside : (listed : Bool) (p : WaitPhase) → c.listed ≡ listed → c.core ≡ core.Wait (record { phase = p })
-        → wait_is_inside listed p ≡ true → may_turn (wait_turn listed p) j t v c ≡ true
+        → wait_is_inside listed p ≡ true → turn_as (wait_turn listed p) t v c ≡ true
     wait_inside listed (w.Checks k) e is i = acts_in _ is refl refl
     wait_inside listed w.Retreats e is i = acts_in _ is refl refl
     wait_inside listed (w.Appends k) e is i = acts_in _ is refl refl
     wait_inside listed (w.Shows k) e is i = acts_in _ is refl refl
-    wait_inside listed (w.Rests k) e is i = acts_in _ is refl refl
+    wait_inside listed (w.Rests k) e is i = gives_on (acts_in _ is refl refl)
     wait_inside true (w.Quits k) e is i = acts_in _ is e refl
     wait_inside false (w.Quits k) e is i = absurd cc
     wait_inside listed w.Forgets e is i = acts_in _ is refl refl
-    wait_inside listed (w.Leaves true) e is i = acts_in _ is refl refl
+    wait_inside listed (w.Leaves true) e is i = gives_on (acts_in _ is refl refl)
     wait_inside listed (w.Leaves false) e is i = absurd cc
     wait_inside listed (w.Waiting k) e is i = absurd cc
     wait_inside listed w.Stranger e is i = absurd cc
@@ -194,7 +136,7 @@ module _ (j : Joint) (h : IsWhole j) (fits : PartsFit j) where
     wait_inside listed w.Invalid e is i = absurd cc
 
     notify_inside : (p : NotifyPhase) → c.core ≡ core.Notify (record { phase = p }) → Notifies j t p
-        → notify_is_inside p ≡ true → may_turn (notify_turn p) j t v c ≡ true
+        → notify_is_inside p ≡ true → turn_as (notify_turn p) t v c ≡ true
     notify_inside (n.Checks all word) is s i = acts_in _ is refl refl
     notify_inside (n.Marks all) is s i = refl
     notify_inside (n.Moves all locked) is s i = absurd (s.turns refl)
@@ -209,7 +151,7 @@ module _ (j : Joint) (h : IsWhole j) (fits : PartsFit j) where
     notify_inside n.Invalid is s i = absurd cc
 
     core_inside : (k : Core) → c.core ≡ k → Stands j t c k → is_inside_by c.listed k ≡ true
-        → may_turn (turn_by c.listed k) j t v c ≡ true
+        → turn_as (turn_by c.listed k) t v c ≡ true
     core_inside (core.Wait q) is stands i = wait_inside c.listed q.phase refl is i
     core_inside (core.Notify q) is stands i = notify_inside q.phase is stands i
 
@@ -234,13 +176,15 @@ module _ (j : Joint) (h : IsWhole j) (fits : PartsFit j) where
   busy : {X : Type 0} (k : ℕ) (d : Call) → row_call_at s k ≡ Some d → row_call_at s k ≡ None → X
   busy k d here none = absurd (none-some d (sym none ∙ here))
 
-  end_front : {X : Type 0} (a : WaitAnswer) (k q : ℕ) (d : Call) → IsSo (front_at_end a) s k q → row_call_at s k ≡ Some d → X
+  end_front : {X : Type 0} (a : WaitAnswer) (k q : ℕ) (d : Call) → IsSo (front_at_end a) s k q
+      → row_call_at s k ≡ Some d → X
   end_front end.WrongMutex k q d x here = busy k d here (idle_of s k x.0)
   end_front end.Woken k q d x here = busy k d here (idle_of s k x.0)
   end_front end.TimedOut k q d x here = busy k d here (idle_of s k x.0)
   end_front end.WrongLot k q d x here = absurd x
 
-  end_back : {X : Type 0} (a : WaitAnswer) (k q : ℕ) (d : Call) → IsSo (back_at_end a) s k q → row_call_at s k ≡ Some d → X
+  end_back : {X : Type 0} (a : WaitAnswer) (k q : ℕ) (d : Call) → IsSo (back_at_end a) s k q → row_call_at s k ≡ Some d
+      → X
   end_back end.WrongMutex k q d x here = busy k d here (idle_of s k x.0)
   end_back end.Woken k q d x here = busy k d here (idle_of s k x.0)
   end_back end.TimedOut k q d x here = busy k d here (idle_of s k x.0)
@@ -250,8 +194,8 @@ module _ (j : Joint) (h : IsWhole j) (fits : PartsFit j) where
   -- is the other's.
   module _ (t v : ℕ) (c : OpenCall) where
     front_turn : (listed : Bool) (p : WaitPhase) (q : ℕ) (d : Call) → IsSo (front_of p) s (front_number j t) q
-        → row_call_at s (front_number j t) ≡ Some d → row_goes j (front_number j t) ≡ true
-        → may_turn (wait_turn listed p) j t v c ≡ true
+        → row_call_at s (front_number j t) ≡ Some d → row_as (front_number j t) ≡ true
+        → turn_as (wait_turn listed p) t v c ≡ true
     front_turn listed (w.Unlocks k) q d x here goes = goes
     front_turn listed (w.Enters k) q d x here goes = busy _ d here (idle_of s _ x.0)
     front_turn listed (w.Checks k) q d x here goes = busy _ d here (idle_of s _ x.0)
@@ -278,12 +222,12 @@ module _ (j : Joint) (h : IsWhole j) (fits : PartsFit j) where
 
     -- it doesn't give its mutex up, or it can
     abbrev GivesOn : WaitPhase → Type 0
-    GivesOn (w.Unlocks k) = row_goes j (front_number j t) ≡ true
+    GivesOn (w.Unlocks k) = row_as (front_number j t) ≡ true
     GivesOn p = Unit {0}
 
     back_turn : (listed : Bool) (p : WaitPhase) (q : ℕ) (d : Call) → GivesOn p
         → IsSo (back_of listed p) s (back_number j t) q → row_call_at s (back_number j t) ≡ Some d
-        → row_goes j (back_number j t) ≡ true → may_turn (wait_turn listed p) j t v c ≡ true
+        → row_as (back_number j t) ≡ true → turn_as (wait_turn listed p) t v c ≡ true
     back_turn listed (w.Unlocks k) q d gives x here goes = gives
     back_turn true (w.Sleeps k) q d gives x here goes = busy _ d here (idle_of s _ x.0)
     back_turn false (w.Sleeps k) q d gives x here goes = goes
@@ -313,20 +257,20 @@ module _ (j : Joint) (h : IsWhole j) (fits : PartsFit j) where
 
     -- by either number
     by_number : (b second : Bool) → (seat_at j t).second ≡ second → (p : WaitPhase) → Waits j t c p → GivesOn p
-        → (d : Call) → row_call_at s (number j t b) ≡ Some d → row_goes j (number j t b) ≡ true
-        → may_turn (wait_turn c.listed p) j t v c ≡ true
+        → (d : Call) → row_call_at s (number j t b) ≡ Some d → row_as (number j t b) ≡ true
+        → turn_as (wait_turn c.listed p) t v c ≡ true
     by_number true true is p x gives d here goes =
         let same = ap (number j t) is in
-        back_turn c.listed p _ d gives x.back (ap (row_call_at s) same ∙ here) (ap (row_goes j) same ∙ goes)
+        back_turn c.listed p _ d gives x.back (ap (row_call_at s) same ∙ here) (ap (row_as) same ∙ goes)
     by_number false false is p x gives d here goes =
         let same = ap (number j t) is in
-        back_turn c.listed p _ d gives x.back (ap (row_call_at s) same ∙ here) (ap (row_goes j) same ∙ goes)
+        back_turn c.listed p _ d gives x.back (ap (row_call_at s) same ∙ here) (ap (row_as) same ∙ goes)
     by_number true false is p x gives d here goes =
         let same = ap (λ b. number j t (not b)) is in
-        front_turn c.listed p _ d x.front (ap (row_call_at s) same ∙ here) (ap (row_goes j) same ∙ goes)
+        front_turn c.listed p _ d x.front (ap (row_call_at s) same ∙ here) (ap (row_as) same ∙ goes)
     by_number false true is p x gives d here goes =
         let same = ap (λ b. number j t (not b)) is in
-        front_turn c.listed p _ d x.front (ap (row_call_at s) same ∙ here) (ap (row_goes j) same ∙ goes)
+        front_turn c.listed p _ d x.front (ap (row_call_at s) same ∙ here) (ap (row_as) same ∙ goes)
 
     notifier_idle : {X : Type 0} (b : Bool) (p : NotifyPhase) → Notifies j t p → (d : Call)
         → row_call_at s (number j t b) ≡ Some d → X
@@ -335,18 +279,19 @@ module _ (j : Joint) (h : IsWhole j) (fits : PartsFit j) where
 
     by_core : (b : Bool) (k : Core) → Stands j t c k
         → ((p : WaitPhase) → k ≡ core.Wait (record { phase = p }) → GivesOn p) → (d : Call)
-        → row_call_at s (number j t b) ≡ Some d → row_goes j (number j t b) ≡ true → may_turn (turn_by c.listed k) j t v
-        c ≡ true
-    by_core b (core.Wait q) x gives d here goes = by_number b (seat_at j t).second refl q.phase x (gives q.phase refl) d here goes
+        → row_call_at s (number j t b) ≡ Some d → row_as (number j t b) ≡ true
+        → turn_as (turn_by c.listed k) t v c ≡ true
+    by_core b (core.Wait q) x gives d here goes =
+        by_number b (seat_at j t).second refl q.phase x (gives q.phase refl) d here goes
     by_core b (core.Notify q) x gives d here goes = notifier_idle b q.phase x d here
 
   -- whoever gives its mutex up can
   abbrev GiversGo : ℕ → Type 0
   GiversGo t = (v q : ℕ) (c : OpenCall) → call_at j v t ≡ Some c → c.core ≡ core.Wait (record { phase = w.Unlocks q })
-      → row_goes j (front_number j t) ≡ true
+      → row_as (front_number j t) ≡ true
 
   number_goes : (t : ℕ) (b : Bool) (d : Call) → t < length j.seats → GiversGo t → row_call_at s (number j t b) ≡ Some d
-      → row_goes j (number j t b) ≡ true → may_go j t ≡ true
+      → row_as (number j t b) ≡ true → goes_as t ≡ true
   number_goes t b d low givers here goes = by_seat (seat_at j t).at refl
     where
       alone : (b : Bool) → (row_call_at s t ≡ None) ⊎ (row_call_at s (number j t true) ≡ None)
@@ -360,11 +305,12 @@ module _ (j : Joint) (h : IsWhole j) (fits : PartsFit j) where
       gives v c at (w.Unlocks q) is = givers v q c at is
       gives v c at p is = tt
 
-      by_seat : (o : Option ℕ) → (seat_at j t).at ≡ o → may_go j t ≡ true
+      by_seat : (o : Option ℕ) → (seat_at j t).at ≡ o → goes_as t ≡ true
       by_seat None seat =
-          ap (λ b. b && may_go_at (seat_at j t).at j t) (lt-ltb t (length j.seats) low)
-          ∙ ap (λ (o : Option ℕ). may_go_at o j t) seat
-          ∙ ap (row_goes j) (alone b (h.one t seat) here)
+          ap (λ b. (b && may_go_at (seat_at j t).at j t) && not ((b && enters_at (seat_at j t).at j t) && strict))
+          (lt-ltb t (length j.seats) low)
+          ∙ ap (λ (o : Option ℕ). may_go_at o j t && not (enters_at o j t && strict)) seat
+          ∙ ap (row_as) (alone b (h.one t seat) here)
           ∙ goes
       by_seat (Some v) seat =
           let (c, at) = h.sits v t seat in
@@ -381,36 +327,50 @@ module _ (j : Joint) (h : IsWhole j) (fits : PartsFit j) where
 
   module _ (out : GiversAreOut j) (awake : Always AwakeCanMove) (somebody : Always RowSomebodyCanMove)
       (shut : is_open_at_variables j ≡ false) where
-    row_free : (k : ℕ) → can_move s k ≡ true → row_goes j k ≡ true
-    row_free k can = goes_anyway (can_move s k) (enters_at_lock j k) (is_open_at_variables j) can shut
+    row_free : (k : ℕ) → can_move s k ≡ true → (enters_at_lock j k && strict) ≡ false → row_as k ≡ true
+    row_free k can out = and_too (row_goes j k) (enters_at_lock j k && strict)
+        (goes_anyway (can_move s k) (enters_at_lock j k) (is_open_at_variables j) can shut) out
 
     -- the one inside a section of a lock can move
-    in_section : (o : Section) → s.lot.section ≡ Some o → Somebody
-    in_section o is = go (row_call_at s w) refl
-        (goes_on s fits.rows o is (row_call_at s w) (fits.rows.lots.seated w (fits.rows.lots.opened o is).2))
+    in_section : (b : ℕ) (o : Section) → s.lot.sections b ≡ Some o → Somebody
+    in_section b o is = go (row_call_at s w) refl
+        (goes_on s fits.rows b o is (row_call_at s w) (fits.rows.lots.seated w (fits.rows.lots.opened b o is).2))
       where
         w : ℕ
-        w = (fits.rows.lots.opened o is).0
+        w = (fits.rows.lots.opened b o is).0
 
-        is_inside : inside s ≡ Some w
-        is_inside = ap (option_and_then (λ (x : Section). x.thread)) is ∙ (fits.rows.lots.opened o is).1
+        is_inside : s.lot.inside w ≡ Some o.key
+        is_inside = fits.rows.lots.sound.fit.owner b o w is (fits.rows.lots.opened b o is).1
+
+        outside_again : (n : ℕ) → s.lot.inside n ≡ None → w ≡ n → ⊥
+        outside_again n none same = none-some o.key (sym none ∙ (ap s.lot.inside (sym same) ∙ is_inside))
+
+        enters_none : (d : Call) → row_call_at s w ≡ Some d → (enters_at_lock j w && strict) ≡ false
+        enters_none d here = ap (λ (b : Bool). b && strict)
+            (ap (λ (o : Option Call). option_map_or (λ (c : Call). core_enters c.core) o false) here
+            ∙ inside_enters_none s fits.rows w d here o.key is_inside)
 
         it_goes : (d : Call) → row_call_at s w ≡ Some d → can_move s w ≡ true → (t : ℕ) (b : Bool) → t < length j.seats
             → w ≡ number j t b → Somebody
         it_goes d here can t b low at = (
           t,
           number_goes t b d low givers (sym (ap (row_call_at s) at) ∙ here)
-              (sym (ap (row_goes j) at) ∙ row_free w can),
+              (sym (ap row_as at) ∙ row_free w can (enters_none d here)),
         )
           where
             givers : GiversGo t
             givers v q c there is = by (seat_at j t).second refl b refl
               where
-                by : (second : Bool) → (seat_at j t).second ≡ second → (b' : Bool) → b ≡ b' → row_goes j (front_number j t) ≡ true
-                by true x true y = absurd (out v t q c there is (is_inside ∙ ap Some (at ∙ ap (number j t) (y ∙ sym x))))
-                by false x false y = absurd (out v t q c there is (is_inside ∙ ap Some (at ∙ ap (number j t) (y ∙ sym x))))
-                by true x false y = ap (row_goes j) (ap (λ z. number j t (not z)) x ∙ sym (at ∙ ap (number j t) y)) ∙ row_free w can
-                by false x true y = ap (row_goes j) (ap (λ z. number j t (not z)) x ∙ sym (at ∙ ap (number j t) y)) ∙ row_free w can
+                by : (second : Bool) → (seat_at j t).second ≡ second → (b' : Bool) → b ≡ b'
+                    → row_as (front_number j t) ≡ true
+                by true x true y = absurd (outside_again (back_number j t) (out v t q c there is)
+                    (at ∙ ap (number j t) (y ∙ sym x)))
+                by false x false y = absurd (outside_again (back_number j t) (out v t q c there is)
+                    (at ∙ ap (number j t) (y ∙ sym x)))
+                by true x false y = ap row_as (ap (λ z. number j t (not z)) x ∙ sym (at ∙ ap (number j t) y))
+                    ∙ row_free w can (enters_none d here)
+                by false x true y = ap row_as (ap (λ z. number j t (not z)) x ∙ sym (at ∙ ap (number j t) y))
+                    ∙ row_free w can (enters_none d here)
 
         go : (o : Option Call) → row_call_at s w ≡ o → can_move_in s o ≡ true → Somebody
         go None here can = absurd cc
@@ -420,9 +380,14 @@ module _ (j : Joint) (h : IsWhole j) (fits : PartsFit j) where
 
     -- AND NONE OF A LOCK
 
-    module _ (none : s.lot.section ≡ None) where
-      up : (k : ℕ) (d : Call) → row_call_at s k ≡ Some d → is_asleep s k ≡ false → row_goes j k ≡ true
-      up k d here is = row_free k (awake s fits.rows k d here is (λ key e. none) (λ comes. none))
+    module _ (none : is_open_at_locks j ≡ false) (lax : strict ≡ false) where
+      none_there : (key : ℕ) → open_at s key ≡ None
+      none_there key = none_of_key s.lot key fits.rows.lots.sound.fit.some none
+
+      up : (k : ℕ) (d : Call) → row_call_at s k ≡ Some d → is_asleep s k ≡ false → row_as k ≡ true
+      up k d here is = row_free k
+          (awake s fits.rows k d here is (λ key e. none_there (key_of d key)) (λ comes. none_there (late_key d)))
+          (not_strict (enters_at_lock j k) strict lax)
 
       givers_go : (t : ℕ) → GiversGo t
       givers_go t v q c here is =
@@ -439,7 +404,8 @@ module _ (j : Joint) (h : IsWhole j) (fits : PartsFit j) where
               let (t, b, low, at) = number_of u (call_within s u d here) in (
                 t,
                 number_goes t b d low (givers_go t) (sym (ap (row_call_at s) at) ∙ here)
-                    (sym (ap (row_goes j) at) ∙ row_free u can),
+                    (sym (ap row_as at)
+                    ∙ row_free u can (not_strict (enters_at_lock j u) strict lax)),
               )
 
       module _ (t : ℕ) (low : t < length j.seats) where
@@ -460,7 +426,8 @@ module _ (j : Joint) (h : IsWhole j) (fits : PartsFit j) where
         unseated : (seat_at j t).at ≡ None → is_free j t ≡ false → Ends
         unseated seat called = go (row_call_at s t) refl (row_call_at s (number j t true)) refl
           where
-            go : (o : Option Call) → row_call_at s t ≡ o → (p : Option Call) → row_call_at s (number j t true) ≡ p → Ends
+            go : (o : Option Call) → row_call_at s t ≡ o → (p : Option Call) → row_call_at s (number j t true) ≡ p
+                → Ends
             go (Some d) is p is' = at_lock false d is
             go None is (Some d) is' = at_lock true d is'
             go None is None is' =
@@ -474,8 +441,13 @@ module _ (j : Joint) (h : IsWhole j) (fits : PartsFit j) where
                 both_ways e = cc
 
         module _ (v : ℕ) (c : OpenCall) (here : call_at j v t ≡ Some c) where
-          goes : may_turn (turn_of c) j t v c ≡ true → Ends
+          goes : turn_as (turn_of c) t v c ≡ true → Ends
           goes x = inl (t, turns t v c low here x)
+
+          -- where it isn't to be strict, it may enter
+          laxly : (x : Turn) → may_turn x j t v c ≡ true → turn_as x t v c ≡ true
+          laxly x goes = and_too (may_turn x j t v c) (turn_enters x j t c && strict) goes
+              (not_strict (turn_enters x j t c) strict lax)
 
           acts_now : (k : Core) → c.core ≡ k → is_own_by c.listed k ≡ true → var_goes j t c (var_at j v) ≡ true
           acts_now k is own = go (var_at j v) refl
@@ -485,13 +457,16 @@ module _ (j : Joint) (h : IsWhole j) (fits : PartsFit j) where
               go (Some x) at = acts t v c x at here (ap (is_own_by c.listed) is ∙ own)
                   (inr (
                     shut_each j.vars v x shut (slot j.vars v x at),
-                    ap (λ (o : Option Section). is_some o) none,
+                    none,
                     shut,
                   ))
 
           acting : (k : Core) → c.core ≡ k → is_own_by c.listed k ≡ true → may_turn (turn_by c.listed k) j t v c
               ≡ var_goes j t c (var_at j v) → Ends
-          acting k is own turn = goes (ap (λ (x : Core). may_turn (turn_by c.listed x) j t v c) is ∙ turn ∙ acts_now k is own)
+          acting k is own turn =
+              goes
+              (laxly (turn_of c)
+              (ap (λ (x : Core). may_turn (turn_by c.listed x) j t v c) is ∙ turn ∙ acts_now k is own))
 
           -- one of its numbers is in a call at the mutex
           calling : (sort : RowCore → Bool) (b : Bool) (q : ℕ) → IsIn sort s (number j t b) q → Ends
@@ -499,7 +474,8 @@ module _ (j : Joint) (h : IsWhole j) (fits : PartsFit j) where
 
           unlisted : (p : WaitPhase) (q : ℕ) → c.listed ≡ false → back_of false p ≡ Asks
               → IsSo (back_of c.listed p) s (back_number j t) q → IsSo Asks s (back_number j t) q
-          unlisted p q e asks x = subst (λ (a : AtMutex). IsSo a s (back_number j t) q) (ap (λ b. back_of b p) e ∙ asks) x
+          unlisted p q e asks x =
+              subst (λ (a : AtMutex). IsSo a s (back_number j t) q) (ap (λ b. back_of b p) e ∙ asks) x
 
           by_phase : (listed : Bool) (p : WaitPhase) → c.listed ≡ listed → c.core ≡ core.Wait (record { phase = p })
               → Waits j t c p → Ends
@@ -519,16 +495,18 @@ module _ (j : Joint) (h : IsWhole j) (fits : PartsFit j) where
                 sleeps = ap (turn_by c.listed) is
                     ∙ ap (λ b. wait_turn b (w.Sleeps k)) e;
               }))
-          by_phase false (w.Sleeps k) e is x = calling asks (seat_at j t).second _ (unlisted (w.Sleeps k) _ e refl x.back)
+          by_phase false (w.Sleeps k) e is x =
+              calling asks (seat_at j t).second _ (unlisted (w.Sleeps k) _ e refl x.back)
           by_phase true (w.Expires k) e is x = acting _ is e (ap (λ b. may_turn (wait_turn b (w.Expires k)) j t v c) e)
           by_phase false (w.Expires k) e is x =
-              goes (ap (λ (y : Core). may_turn (turn_by c.listed y) j t v c) is
-              ∙ ap (λ b. may_turn (wait_turn b (w.Expires k)) j t v c) e)
+              goes (laxly (turn_of c) (ap (λ (y : Core). may_turn (turn_by c.listed y) j t v c) is
+              ∙ ap (λ b. may_turn (wait_turn b (w.Expires k)) j t v c) e))
           by_phase true (w.Quits k) e is x = acting _ is e (ap (λ b. may_turn (wait_turn b (w.Quits k)) j t v c) e)
           by_phase false (w.Quits k) e is x = calling asks (seat_at j t).second _ (unlisted (w.Quits k) _ e refl x.back)
           by_phase listed w.Forgets e is x = acting _ is refl refl
           by_phase listed (w.Leaves true) e is x = acting _ is refl refl
-          by_phase listed (w.Resumes token) e is x = goes (ap (λ (y : Core). may_turn (turn_by c.listed y) j t v c) is)
+          by_phase listed (w.Resumes token) e is x = goes (laxly (turn_of c)
+              (ap (λ (y : Core). may_turn (turn_by c.listed y) j t v c) is))
           by_phase listed (w.Locks timed_out) e is x = calling asks_on (seat_at j t).second _ x.back
           by_phase listed (w.Ends a) e is x = acting _ is refl refl
           by_phase listed (w.Leaves false) e is x = absurd x.front
@@ -547,9 +525,12 @@ module _ (j : Joint) (h : IsWhole j) (fits : PartsFit j) where
           by_notice (n.Forgets notice) is x = acting _ is refl refl
           by_notice (n.Leaves notice) is x = acting _ is refl refl
           by_notice (n.Ends count) is x = acting _ is refl refl
-          by_notice (n.Marks all) is x = goes (ap (λ (y : Core). may_turn (turn_by c.listed y) j t v c) is)
-          by_notice (n.MarksRest notice) is x = goes (ap (λ (y : Core). may_turn (turn_by c.listed y) j t v c) is)
-          by_notice (n.Wakes count) is x = goes (ap (λ (y : Core). may_turn (turn_by c.listed y) j t v c) is)
+          by_notice (n.Marks all) is x = goes (laxly (turn_of c)
+              (ap (λ (y : Core). may_turn (turn_by c.listed y) j t v c) is))
+          by_notice (n.MarksRest notice) is x = goes (laxly (turn_of c)
+              (ap (λ (y : Core). may_turn (turn_by c.listed y) j t v c) is))
+          by_notice (n.Wakes count) is x = goes (laxly (turn_of c)
+              (ap (λ (y : Core). may_turn (turn_by c.listed y) j t v c) is))
           by_notice (n.Notifying all) is x = absurd (x.turns refl)
           by_notice (n.Moves all locked) is x = absurd (x.turns refl)
           by_notice n.Invalid is x = absurd (x.turns refl)
@@ -567,33 +548,53 @@ module _ (j : Joint) (h : IsWhole j) (fits : PartsFit j) where
                 let (c, here) = h.sits v t seat in
                 seated_core v c here c.core refl (h.stands v t c here)
 
--- whoever is in a section that is open can move
+-- whoever is in a section that is open can move, and enters none
 pub inside_moves : Always AwakeCanMove → Always RowSomebodyCanMove → (j : Joint) → IsWhole j → PartsFit j
-    → GiversAreOut j → (is_open_at_locks j || is_open_at_variables j) ≡ true → (u : ℕ) × (may_go j u ≡ true)
+    → GiversAreOut j → (is_open_at_locks j || is_open_at_variables j) ≡ true
+    → (u : ℕ) × (may_go j u ≡ true) × (thread_enters j u ≡ false)
 inside_moves awake somebody j h fits out opened = by_variables (is_open_at_variables j) refl
   where
-    by_locks : is_open_at_variables j ≡ false → (o : Option Section) → (state j.rows).lot.section ≡ o → (u : ℕ)
-        × (may_go j u ≡ true)
-    by_locks shut (Some o) is = in_section j h fits out awake somebody shut o is
-    by_locks shut None is =
-        absurd (nothing_open (sym (ap (λ (o : Option Section). is_some o || is_open_at_variables j) is ∙ shut)
-        ∙ opened))
+    strictly : Somebody j h fits true → (u : ℕ) × (may_go j u ≡ true) × (thread_enters j u ≡ false)
+    strictly (u, goes) =
+        let x = both_true _ _ goes in (u, x.0, not_entering (thread_enters j u) x.1)
+
+    by_locks : is_open_at_variables j ≡ false → (b : Bool) → is_open_at_locks j ≡ b
+        → (u : ℕ) × (may_go j u ≡ true) × (thread_enters j u ≡ false)
+    by_locks shut true is =
+        let (b, o, at) = some_open (state j.rows).lot.sections (state j.rows).lot.buckets is in
+        strictly (in_section j h fits true out awake somebody shut b o at)
+    by_locks shut false is =
+        absurd (nothing_open (sym (ap (λ (x : Bool). x || is_open_at_variables j) is ∙ shut) ∙ opened))
       where
         nothing_open : false ≡ true → ⊥
         nothing_open e = cc
 
-    by_variables : (b : Bool) → is_open_at_variables j ≡ b → (u : ℕ) × (may_go j u ≡ true)
-    by_variables true is = var_open j h fits is
-    by_variables false is = by_locks is (state j.rows).lot.section refl
+    by_variables : (b : Bool) → is_open_at_variables j ≡ b → (u : ℕ) × (may_go j u ≡ true) × (thread_enters j u ≡ false)
+    by_variables true is = strictly (var_open j h fits true is)
+    by_variables false is = by_locks is (is_open_at_locks j) refl
+
+pub somebody_inside_goes : Always AwakeCanMove → Always RowSomebodyCanMove → SomebodyInsideGoes
+somebody_inside_goes awake somebody j h fits out opened = inside_moves awake somebody j h fits out opened
 
 pub somebody_can_move : Always AwakeCanMove → Always RowSomebodyCanMove → SomebodyCanMove
 somebody_can_move awake somebody j t h fits out low called = by_variables (is_open_at_variables j) refl
   where
-    by_locks : is_open_at_variables j ≡ false → (o : Option Section) → (state j.rows).lot.section ≡ o
-        → ((u : ℕ) × (may_go j u ≡ true)) ⊎ (IsListed j t ⊎ IsKeptOut j t)
-    by_locks shut None is = quiet j h fits out awake somebody shut is t low called
-    by_locks shut (Some o) is = inl (in_section j h fits out awake somebody shut o is)
+    loosely : Somebody j h fits false → (u : ℕ) × (may_go j u ≡ true)
+    loosely (u, goes) = (u, (both_true _ _ goes).0)
 
-    by_variables : (b : Bool) → is_open_at_variables j ≡ b → ((u : ℕ) × (may_go j u ≡ true)) ⊎ (IsListed j t ⊎ IsKeptOut j t)
-    by_variables true is = inl (var_open j h fits is)
-    by_variables false is = by_locks is (state j.rows).lot.section refl
+    quietly : (Somebody j h fits false) ⊎ (IsListed j t ⊎ IsKeptOut j t)
+        → ((u : ℕ) × (may_go j u ≡ true)) ⊎ (IsListed j t ⊎ IsKeptOut j t)
+    quietly (inl x) = inl (loosely x)
+    quietly (inr x) = inr x
+
+    by_locks : is_open_at_variables j ≡ false → (b : Bool) → is_open_at_locks j ≡ b
+        → ((u : ℕ) × (may_go j u ≡ true)) ⊎ (IsListed j t ⊎ IsKeptOut j t)
+    by_locks shut false is = quietly (quiet j h fits false out awake somebody shut is refl t low called)
+    by_locks shut true is =
+        let (b, o, at) = some_open (state j.rows).lot.sections (state j.rows).lot.buckets is in
+        inl (loosely (in_section j h fits false out awake somebody shut b o at))
+
+    by_variables : (b : Bool) → is_open_at_variables j ≡ b
+        → ((u : ℕ) × (may_go j u ≡ true)) ⊎ (IsListed j t ⊎ IsKeptOut j t)
+    by_variables true is = inl (loosely (var_open j h fits false is))
+    by_variables false is = by_locks is (is_open_at_locks j) refl

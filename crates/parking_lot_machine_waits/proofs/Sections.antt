@@ -1,16 +1,19 @@
 -- A step at a lock opens no section but its own number's, and a step at a variable leaves the calls of others in their
 -- phases.
-use Rattle.std.proofs.Common.{◌≡◌, ◌≢◌, ◌⊎◌, inl, inr, ℕ, zero, suc, ◌==◌, ◌≤◌, ◌||◌, Bool, true, false, cond, List, []}
+use Rattle.std.proofs.Common.{◌≡◌, ◌≢◌, inl, inr, ℕ, zero, suc, ◌==◌, ◌≤◌, ◌||◌, Bool, true, false, cond, List, []}
 use Rattle.std.proofs.Common.{◌∷◌, length, Option, Some, None, option_map, slice_get, slice_set, refl, sym, ap, ◌∙◌}
 use Rattle.std.proofs.Common.{subst}
 use Rattle.std.specs.Option.{option_and_then}
-use Rattle.std.proofs.lemmas.Bool.{cases_eq, cases_lt}
+use Rattle.std.proofs.lemmas.Bool.{cases_eq, cases_lt, ne_eqb}
 use Rattle.std.proofs.lemmas.List.{length-set}
 use Rattle.std.proofs.lemmas.Option.{none-some, same_Some, slice_get_past}
 use Rattle.parking_lot_core_model.specs.declared.place.Phase.{Phase}
 use Rattle.parking_lot_core_model.specs.declared.place.Section.{Section}
-use Rattle.parking_lot_core_model.specs.declared.parking.UnparkToken.{UnparkToken}
+use Rattle.parking_lot_core_model.specs.Lists.{updated}
+use Rattle.parking_lot_core_model.specs.Machine.{Machine, entered_by, fresh_section, in_phase, let_out, open_at, opened}
 use Rattle.parking_lot_core_model.specs.Machine.{stored}
+use Rattle.parking_lot_core_model.proofs.Entering.{open_within, phase_within}
+use Rattle.parking_lot_core_model.proofs.Kept.{by_eqb, updated_at, updated_other}
 use Rattle.parking_lot_protocol.specs.declared.act.Act.{Act}
 use Rattle.parking_lot_protocol.specs.declared.act.CoreAnswer.{CoreAnswer}
 use Rattle.parking_lot_protocol.specs.declared.act.SectionAct.{SectionAct}
@@ -32,44 +35,48 @@ use Rattle.parking_lot_machine_calls.specs.declared.seat.Core.{Core}
 use Rattle.parking_lot_machine_calls.specs.declared.seat.LatePhase.{LatePhase}
 use Rattle.parking_lot_machine_calls.specs.declared.seat.QueuePosition.{QueuePosition}
 use Rattle.parking_lot_machine.specs.LateActs.{came_back, others_left, out_of_list, quitted_as}
-use Rattle.parking_lot_machine_calls.specs.LateCalls.{is_pending}
+use Rattle.parking_lot_machine_calls.specs.LateCalls.{is_pending, late_key}
 use Rattle.parking_lot_machine.specs.Machines.{Became, BecameInside, BecameLate, IsStepped}
-use Rattle.parking_lot_machine.specs.RowActs.{entered, left}
-use Rattle.parking_lot_machine.specs.Rows.{State, inside, word_at}
+use Rattle.parking_lot_machine.specs.RowActs.{entered, key_in, left}
+use Rattle.parking_lot_machine.specs.Requeues.{lot_with}
+use Rattle.parking_lot_machine_calls.specs.CallActs.{key_of}
+use Rattle.parking_lot_machine.specs.Rows.{State, first_key, word_at}
 use Rattle.parking_lot_machine_calls.specs.Stances.{core_act, sign}
 use Rattle.parking_lot_machine_waits.specs.declared.seat.Seat.{Seat}
 use Rattle.parking_lot_machine_waits.specs.Joint.{Joint, call_at, call_in, var_at, var_in}
 use Rattle.parking_lot_machine_waits.specs.JointSteps.{ActsAt, ActsIn, HearsAt, HearsIn}
-use Rattle.parking_lot_machine_waits.specs.Moving.{AreMoved, AreMovedAs, AreTaken, Notifies}
+use Rattle.parking_lot_machine_waits.specs.Moving.{AreMoved, AreMovedAs, AreTaken, Notifies, back_in}
 use Rattle.parking_lot_machine_waits.proofs.RankParts.{var_here}
 
 -- WHO IS INSIDE
 
-abbrev who : Option Section → Option ℕ
-who o = option_and_then (λ (x : Section). x.thread) o
+-- the key of the section that each number is in
+abbrev pub inside : State → ℕ → Option ℕ
+inside s = s.lot.inside
 
--- whoever is inside then was so before, or is that number
-abbrev pub Opens : ℕ → Option ℕ → Option ℕ → Type 0
-Opens t before after = (k : ℕ) → after ≡ Some k → (k ≡ t) ⊎ (before ≡ Some k)
+-- whoever was in no section is in none, but for that number
+abbrev pub Opens : ℕ → (ℕ → Option ℕ) → (ℕ → Option ℕ) → Type 0
+Opens t before after = (k : ℕ) → before k ≡ None → k ≢ t → after k ≡ None
 
-pub stays_open : (t : ℕ) (before after : Option ℕ) → after ≡ before → Opens t before after
-stays_open t before after e k is = inr (sym e ∙ is)
+-- and nor is that one
+abbrev pub NobodyComes : (ℕ → Option ℕ) → (ℕ → Option ℕ) → Type 0
+NobodyComes before after = (k : ℕ) → before k ≡ None → after k ≡ None
 
-pub is_shut : (t : ℕ) (before after : Option ℕ) → after ≡ None → Opens t before after
-is_shut t before after e k is = absurd (none-some k (sym e ∙ is))
+pub none_comes : (before after : ℕ → Option ℕ) → after ≡ before → NobodyComes before after
+none_comes before after e k none = ap (λ (f : ℕ → Option ℕ). f k) e ∙ none
 
-own_open : (t : ℕ) (before after : Option ℕ) → after ≡ Some t → Opens t before after
-own_open t before after e k is = inl (same_Some k t (sym is ∙ e))
+pub stays_open : (t : ℕ) (before after : ℕ → Option ℕ) → after ≡ before → Opens t before after
+stays_open t before after e k none ne = none_comes before after e k none
 
--- how far it has come, and what it has stored, is another thing
-phased : (ph : Phase) (o : Option Section) → who (option_map (λ (x : Section). record x { phase = ph }) o) ≡ who o
-phased ph None = refl
-phased ph (Some x) = refl
+own_open : (t key : ℕ) (before : ℕ → Option ℕ) → Opens t before (updated before t (Some key))
+own_open t key before k none ne = updated_other before t (Some key) k (ne_eqb k t ne) ∙ none
 
-stored_so : (ph : Phase) (token : UnparkToken) (o : Option Section)
-    → who (option_map (λ (x : Section). record x { phase = ph; token = token }) o) ≡ who o
-stored_so ph token None = refl
-stored_so ph token (Some x) = refl
+-- whose section is closed comes into none
+closes_out : (o : Option ℕ) (before : ℕ → Option ℕ) → NobodyComes before (let_out o before)
+closes_out None before k none = none
+closes_out (Some w) before k none = by_eqb k w (updated before w None k ≡ None)
+    (λ e. ap (updated before w None) e ∙ updated_at before w None)
+    (λ e. updated_other before w None k e ∙ none)
 
 module _ (s : State) (t : ℕ) (c : Call) where
   is : (u v : State) → u ≡ v → Opens t (inside s) (inside v) → Opens t (inside s) (inside u)
@@ -83,32 +90,38 @@ module _ (s : State) (t : ℕ) (c : Call) where
   either false x y p q = q
 
   in_section : (k : SectionAct) (fair : Bool) (u : State) → BecameInside k t fair c s u → Opens t (inside s) (inside u)
-  in_section SectionAct.Check fair u e = still u _ e (phased _ s.lot.section)
-  in_section SectionAct.TakeFirst fair u (k, stands, inl (nth, w, first, e)) = still u _ e (phased _ s.lot.section)
-  in_section SectionAct.TakeFirst fair u (k, stands, inr (empty, e)) = still u _ e (phased _ s.lot.section)
-  in_section (SectionAct.TakeNext sum) fair u (k, stands, inl (nth, w, first, e)) = still u _ e (phased _ s.lot.section)
-  in_section (SectionAct.TakeNext sum) fair u (k, stands, inr (empty, e)) = still u _ e (phased _ s.lot.section)
-  in_section (SectionAct.Append token) fair u (k, stands, e) = still u _ e (phased _ s.lot.section)
-  in_section (SectionAct.Store plain handing) fair u e = still u _ e (stored_so _ _ s.lot.section)
-  in_section SectionAct.Leave fair u e = is u (left s t c) e (is_shut t _ _ refl)
+  in_section SectionAct.Check fair u e = still u _ e refl
+  in_section SectionAct.TakeFirst fair u (k, stands, inl (nth, w, first, e)) = still u _ e refl
+  in_section SectionAct.TakeFirst fair u (k, stands, inr (empty, e)) = still u _ e refl
+  in_section (SectionAct.TakeNext sum) fair u (k, stands, inl (nth, w, first, e)) = still u _ e refl
+  in_section (SectionAct.TakeNext sum) fair u (k, stands, inr (empty, e)) = still u _ e refl
+  in_section (SectionAct.Append token) fair u (k, stands, e) = still u _ e refl
+  in_section (SectionAct.Store plain handing) fair u e = still u _ e refl
+  in_section SectionAct.Leave fair u e =
+      is u (left s t c) e (λ k none ne. closes_out (entered_by s.lot (key_in c)) (inside s) k none)
   in_section SectionAct.Wake fair u (inl (e, d, token, due, became)) = still u _ became refl
   in_section SectionAct.Wake fair u (inr (nobody, became)) = still u _ became refl
 
-  comes : (at : QueuePosition) → inside (came_back at s t c) ≡ Some t
+  comes : (at : QueuePosition) → inside (came_back at s t c) ≡ updated (inside s) t (Some (late_key c))
   comes QueuePosition.Listed = refl
   comes (QueuePosition.Off by said) = refl
+
+  back : (u : State) → u ≡ came_back c.spot s t c → Opens t (inside s) (inside u)
+  back u e = is u (came_back c.spot s t c) e
+      (subst (Opens t (inside s)) (sym (comes c.spot)) (own_open t (late_key c) (inside s)))
 
   quits : (left : Bool) → inside (quitted_as s t c left) ≡ inside s
   quits left = go (left || is_pending c.core)
     where
-      go : (b : Bool) → who (cond b (stored (out_of_list s t c) (sign false)) (out_of_list s t c)).section ≡ inside s
-      go true = stored_so _ _ (out_of_list s t c).section ∙ phased _ s.lot.section
-      go false = phased _ s.lot.section
+      go : (b : Bool) → (cond b (stored (out_of_list s t c) (late_key c) (sign false)) (out_of_list s t c)).inside
+          ≡ inside s
+      go true = refl
+      go false = refl
 
   late : (k : Core) (u : State) → BecameLate k t c s u → Opens t (inside s) (inside u)
-  late (Core.Late LatePhase.Expires) u e = is u (came_back c.spot s t c) e (own_open t _ _ (comes c.spot))
+  late (Core.Late LatePhase.Expires) u e = back u e
   late (Core.Late LatePhase.Quits) u e = still u _ e (quits (others_left s t c))
-  late (Core.LateRw (LateRwPhase.Expires z)) u e = is u (came_back c.spot s t c) e (own_open t _ _ (comes c.spot))
+  late (Core.LateRw (LateRwPhase.Expires z)) u e = back u e
   late (Core.LateRw (LateRwPhase.Quits z)) u e = still u _ e (quits (others_left s t c))
   late k u e = absurd e
 
@@ -116,9 +129,9 @@ module _ (s : State) (t : ℕ) (c : Call) where
   became Act.Load fair u e = still u _ e refl
   became (Act.Exchange from to) fair u e = still u _ e (either (word_at s c.lock == from) _ _ refl refl)
   became (Act.Add by) fair u e = still u _ e refl
-  became (Act.FetchAnd keep) fair u e = still u _ e (stored_so _ _ s.lot.section)
+  became (Act.FetchAnd keep) fair u e = still u _ e refl
   became Act.Spin fair u e = still u _ e refl
-  became (Act.Enter key) fair u e = is u (entered s t c key) e (own_open t _ _ refl)
+  became (Act.Enter key) fair u e = is u (entered s t c key) e (own_open t (key_of c key) (inside s))
   became (Act.Section next) fair u e = in_section next fair u e
   became Act.Sleep fair u e = late c.core u e
   became (Act.Done answer) fair u e = still u _ e refl
@@ -127,26 +140,44 @@ pub step_opens : (s u : State) (t : ℕ) (fair : Bool) (answer : Option CoreAnsw
     → Opens t (inside s) (inside u)
 step_opens s u t fair answer x = became s t x.call (core_act x.call.core) fair u x.became
 
--- those that are moved leave none open
-are_shut : (seats : List Seat) (x : Var) (lock : ℕ) (ws : List ℕ) (s u : State) → AreMoved seats x lock ws s u
-    → (inside u ≡ None) ⊎ (u ≡ s)
-are_shut seats x lock [] s u e = inr e
-are_shut seats x lock (v ∷ ws) s u (m, first, rest) = elim (are_shut seats x lock ws m u rest) [
-  | inl e ↦ inl e
-  | inr e ↦ inl (ap inside e ∙ ap who first.free)
-]
+-- one that joins a list in a section of its own has left it
+joined_out : (m : Machine) (v key : ℕ) → NobodyComes m.inside (lot_with m v key).inside
+joined_out m v key k none =
+    by_eqb k v ((lot_with m v key).inside k ≡ None)
+    (λ e. ap (lot_with m v key).inside e
+    ∙ (ap (λ (o : Option ℕ). let_out o (updated m.inside v (Some key)) v) who
+    ∙ updated_at (updated m.inside v (Some key)) v None))
+    (λ e. closes_out (entered_by at_end key) (updated m.inside v (Some key)) k
+    (updated_other m.inside v (Some key) k e ∙ none))
+  where
+    so_far : Phase → Section
+    so_far ph = record (fresh_section (Some v) key) { phase = ph }
+
+    at_end : Machine
+    at_end = in_phase (in_phase (opened m (Some v) key) key Phase.Valid) key Phase.Joined
+
+    who : entered_by at_end key ≡ Some v
+    who = ap (option_and_then (λ (x : Section). x.thread))
+        (ap (λ (n : Machine). open_at (in_phase n key Phase.Joined) key)
+        (phase_within m (so_far Phase.Fresh) Phase.Valid)
+        ∙ (ap (λ (n : Machine). open_at n key) (phase_within m (so_far Phase.Valid) Phase.Joined)
+        ∙ open_within m (so_far Phase.Joined)))
+
+-- those that are moved come into none
+are_out : (seats : List Seat) (x : Var) (lock : ℕ) (ws : List ℕ) (s u : State) → AreMoved seats x lock ws s u
+    → NobodyComes (inside s) (inside u)
+are_out seats x lock [] s u e k none = none_comes (inside s) (inside u) (ap inside e) k none
+are_out seats x lock (v ∷ ws) s u (m, first, rest) k none =
+    are_out seats x lock ws m u rest k
+    (ap (λ (y : State). inside y k) first.became
+    ∙ joined_out s.lot (back_in seats v) (first_key lock) k none)
 
 pub moved_shut : (locked : Bool) (seats : List Seat) (x : Var) (lock : ℕ) (ws : List ℕ) (s u : State)
-    → AreMovedAs locked seats x lock ws s u → (inside u ≡ None) ⊎ (inside u ≡ inside s)
-moved_shut true seats x lock ws s u moved = elim (are_shut seats x lock ws s u moved) [
-  | inl e ↦ inl e
-  | inr e ↦ inr (ap inside e)
-]
-moved_shut false seats x lock [] s u e = inr (ap inside e)
-moved_shut false seats x lock (v ∷ ws) s u (m, first, rest) = elim (are_shut seats x lock ws m u rest) [
-  | inl e ↦ inl e
-  | inr e ↦ inl (ap inside e ∙ ap who first.free)
-]
+    → AreMovedAs locked seats x lock ws s u → NobodyComes (inside s) (inside u)
+moved_shut true seats x lock ws s u moved k none = are_out seats x lock ws s u moved k none
+moved_shut false seats x lock [] s u e k none = none_comes (inside s) (inside u) (ap inside e) k none
+moved_shut false seats x lock (v ∷ ws) s u (m, first, rest) k none =
+    are_out seats x lock ws m u rest k (ap (λ (y : State). inside y k) first.became ∙ none)
 
 -- OTHERS AT A VARIABLE
 

@@ -1,6 +1,9 @@
 -- What it leaves of each number at the locks that waiters are moved to a mutex: those ask for it, and all others stay.
+use Rattle.parking_lot_machine_waits.specs.Joint.{any_section}
+use Rattle.parking_lot_machine_waits.proofs.AnySections.{joined_shut}
+use Rattle.parking_lot_machine.specs.Rows.{first_key}
 use Rattle.std.proofs.Common.{◌≡◌, ◌≢◌, ℕ, ◌==◌, ◌<◌, ◌||◌, Bool, true, false, List, [], ◌∷◌, length, Option, Some}
-use Rattle.std.proofs.Common.{None, slice_set, refl, sym, ap, ◌∙◌, subst, eq-eqb, eqb-true}
+use Rattle.std.proofs.Common.{slice_set, refl, sym, ap, ◌∙◌, subst, eq-eqb, eqb-true}
 use Rattle.std.specs.List.{list_any}
 use Rattle.std.proofs.lemmas.Bool.{or_left, or_right}
 use Rattle.std.proofs.lemmas.List.{length-set}
@@ -29,7 +32,7 @@ pub record RowsMoved (seats : List Seat) (lock : ℕ) (ws : List ℕ) (s u : Sta
   pub count : length u.calls ≡ length s.calls
   pub kinds : u.kinds ≡ s.kinds
   pub holds : u.holds ≡ s.holds
-  pub closed : s.lot.section ≡ None → u.lot.section ≡ None
+  pub closed : any_section s ≡ false → any_section u ≡ false
   pub each : (k : ℕ) → Now (moves seats k ws) lock s u k
 
 -- each of them is a thread's
@@ -42,20 +45,21 @@ module _ (seats : List Seat) (x : Var) (lock : ℕ) where
     count = ap (λ (y : State). length y.calls) e;
     kinds = ap (λ (y : State). y.kinds) e;
     holds = ap (λ (y : State). y.holds) e;
-    closed = λ none. ap (λ (y : State). y.lot.section) e ∙ none;
+    closed = λ none. ap any_section e ∙ none;
     each = λ k. untouched s u k (ap (λ (y : State). call_at y k) e) (λ m. ap (λ (y : State). hold_at y k m) e);
   }
 
   -- the first is moved, and then the rest
   one_moved : (w : ℕ) (ws : List ℕ) (s m u : State) (d : Call) → m.calls ≡ slice_set s.calls (back_in seats w) (Some d)
-      → m.kinds ≡ s.kinds → m.holds ≡ s.holds → m.lot.section ≡ None → IsIn asks m (back_in seats w) lock
+      → m.kinds ≡ s.kinds → m.holds ≡ s.holds → (any_section s ≡ false → any_section m ≡ false)
+      → IsIn asks m (back_in seats w) lock
       → RowsMoved seats lock ws m u → RowsMoved seats lock (w ∷ ws) s u
   one_moved w ws s m u d calls kinds holds closed asking rest = record {
     count = rest.count ∙ ap (λ (cs : List (Option Call)). length cs) calls ∙ length-set s.calls (back_in seats w)
         (Some d);
     kinds = rest.kinds ∙ kinds;
     holds = rest.holds ∙ holds;
-    closed = λ e. rest.closed closed;
+    closed = λ e. rest.closed (closed e);
     each = λ k. join k (k == back_in seats w) (moves seats k ws) refl (rest.each k);
   }
     where
@@ -88,7 +92,8 @@ module _ (seats : List Seat) (x : Var) (lock : ℕ) where
   all_moved (w ∷ ws) s u low (m, taken, rest) =
       let count = ap (λ (y : State). length y.calls) taken.became ∙ length-set s.calls (back_in seats w) _ in
       one_moved w ws s m u _ (ap (λ (y : State). y.calls) taken.became) (ap (λ (y : State). y.kinds) taken.became)
-      (ap (λ (y : State). y.holds) taken.became) taken.free
+      (ap (λ (y : State). y.holds) taken.became)
+      (λ none. ap any_section taken.became ∙ joined_shut s.lot (first_key lock) none (back_in seats w))
       (taken_asking s m (back_in seats w) lock (timed_in x w) taken (first_low w ws s low))
       (all_moved ws m u (rest_low w ws s m count low) rest)
 
@@ -100,7 +105,7 @@ module _ (seats : List Seat) (x : Var) (lock : ℕ) where
   rows_moved false (w ∷ ws) s u low (m, roused, rest) =
       let count = ap (λ (y : State). length y.calls) roused.became ∙ length-set s.calls (back_in seats w) _ in
       one_moved w ws s m u _ (ap (λ (y : State). y.calls) roused.became) (ap (λ (y : State). y.kinds) roused.became)
-      (ap (λ (y : State). y.holds) roused.became) roused.free
+      (ap (λ (y : State). y.holds) roused.became) (λ none. ap any_section roused.became ∙ none)
       (roused_asking s m (back_in seats w) lock false roused (first_low w ws s low))
       (all_moved ws m u (rest_low w ws s m count low) rest)
 

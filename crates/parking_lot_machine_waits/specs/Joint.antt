@@ -3,6 +3,7 @@ use Rattle.std.specs.Prelude.{ℕ, ◌+◌, ◌-◌, ◌&&◌, ◌||◌, not, na
 use Rattle.std.specs.Prelude.{Option, Some, None, is_some, is_none, slice_get}
 use Rattle.std.specs.List.{list_any}
 use Rattle.std.specs.Option.{option_and_then, option_map_or, option_or, unwrap_or}
+use Rattle.parking_lot_core_model.specs.Buckets.{any_open}
 use Rattle.parking_lot_protocol.specs.declared.act.Act.{Act}
 use Rattle.parking_lot_protocol.specs.declared.act.Act.TheVariants as act
 use Rattle.parking_lot_machine_sides.specs.declared.condvar.outside.Outside.{Outside}
@@ -97,8 +98,12 @@ is_entered x = option_map_or (λ s. is_some s.inside) x false
 abbrev pub is_open_at_variables : Joint → Bool
 is_open_at_variables j = list_any is_entered j.vars
 
+-- a section of some lock is open, in any bucket
+abbrev pub any_section : State → Bool
+any_section s = any_open s.lot.sections s.lot.buckets
+
 abbrev pub is_open_at_locks : Joint → Bool
-is_open_at_locks j = is_some (state j.rows).lot.section
+is_open_at_locks j = any_section (state j.rows)
 
 abbrev pub is_entry : Act → Bool
 is_entry (act.Enter key) = true
@@ -122,7 +127,7 @@ enters_at_lock j k = option_map_or (λ c. core_enters c.core) (row.call_at (stat
 
 -- WHICH STEPS ARE POSSIBLE
 
--- number k can make its step at a lock: it enters no section while one of a variable is open
+-- number k can make its step at a lock: it enters no section beside one in its bucket, or beside one of a variable
 abbrev pub row_goes : Joint → ℕ → Bool
 row_goes j k = rows.can_move (state j.rows) k && not (enters_at_lock j k && is_open_at_variables j)
 

@@ -50,7 +50,7 @@ may_call_at j t v c = nat_lt t (length j.seats)
 
 -- STEPS
 
--- A thread's turn can be taken: it doesn't sleep, and enters no section while one is open.
+-- A thread's turn can be taken: it doesn't sleep, and enters no section that one which is open keeps out.
 abbrev pub may_turn : Turn → Joint → ℕ → ℕ → OpenCall → Bool
 may_turn turn.Sleeps j t v c = false
 may_turn turn.Acts j t v c = var_goes j t c (var_at j v)

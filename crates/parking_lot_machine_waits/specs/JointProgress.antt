@@ -1,5 +1,5 @@
 -- That some thread can move, or one waits for what only another can give.
-use Rattle.std.specs.Prelude.{◌≡◌, ◌≢◌, ◌⊎◌, ℕ, ◌<◌, Bool, true, false, length, Option, Some, None}
+use Rattle.std.specs.Prelude.{◌≡◌, ◌⊎◌, ℕ, ◌<◌, Bool, true, false, length, Option, Some, None}
 use Rattle.parking_lot_protocol_waits.specs.declared.wait_core.WaitPhase.TheVariants as w
 use Rattle.parking_lot_machine_sides.specs.declared.condvar.calls.CondvarCall.{CondvarCall}
 use Rattle.parking_lot_machine_sides.specs.declared.condvar.open_call.Core.TheVariants as core
@@ -7,7 +7,7 @@ use Rattle.parking_lot_machine_sides.specs.declared.condvar.open_call.OpenCall.{
 use Rattle.parking_lot_machine_calls.specs.declared.calls.LockCall.{LockCall}
 use Rattle.parking_lot_machine_calls.specs.declared.open_call.Call.{Call}
 use Rattle.parking_lot_machine.specs.Machines.{is_asleep}
-use Rattle.parking_lot_machine.specs.Rows.{call_at as row_call_at, inside, state}
+use Rattle.parking_lot_machine.specs.Rows.{call_at as row_call_at, state}
 use Rattle.parking_lot_machine.specs.SoundLaws.{SomebodyKeeps}
 use Rattle.parking_lot_machine_waits.specs.declared.ended.Ended.{Ended}
 use Rattle.parking_lot_machine_waits.specs.declared.turn.Turn.TheVariants as turn
@@ -39,7 +39,7 @@ pub record IsKeptOut (j : Joint) (t : ℕ) : Type 0 where
 -- list, where it sleeps or was woken.
 abbrev pub GiversAreOut : Joint → Type 0
 GiversAreOut j = (v t m : ℕ) (c : OpenCall) → call_at j v t ≡ Some c
-    → c.core ≡ core.Wait (record { phase = w.Unlocks m }) → inside (state j.rows) ≢ Some (back_number j t)
+    → c.core ≡ core.Wait (record { phase = w.Unlocks m }) → (state j.rows).lot.inside (back_number j t) ≡ None
 
 -- Where a thread is in a call, some thread can move; or that thread itself waits in a list for a notification, its
 -- deadline, or an owner.

@@ -23,7 +23,7 @@ use Rattle.parking_lot_machine_calls.specs.Beginnings.{excludes, owns_nothing}
 use Rattle.parking_lot_machine.specs.Rows.{State, call_at as row_call_at, hold_at, state}
 use Rattle.parking_lot_machine_waits.specs.declared.turn.Turn.TheVariants as turn
 use Rattle.parking_lot_machine_waits.specs.Joint.{Joint, back_number, call_at, front_number, is_entered}
-use Rattle.parking_lot_machine_waits.specs.Joint.{is_open_at_variables, number, seat_at, var_at}
+use Rattle.parking_lot_machine_waits.specs.Joint.{is_open_at_locks, is_open_at_variables, number, seat_at, var_at}
 use Rattle.parking_lot_machine_waits.specs.Turns.{mutex_of, notify_turn}
 
 -- WHAT A CALL AT A MUTEX IS FOR
@@ -227,5 +227,5 @@ pub record IsWhole (j : Joint) : Type 0 where
   pub holds : (k m : ℕ) → slice_get (state j.rows).kinds m ≡ Some kind.Mutex
       → (excludes (hold_at (state j.rows) k m) ≡ true) ⊎ (owns_nothing (hold_at (state j.rows) k m) ≡ true)
   -- no section of a variable is open beside one of a lock, or of another variable
-  pub sections : ((state j.rows).lot.section ≡ None) ⊎ (is_open_at_variables j ≡ false)
+  pub sections : (is_open_at_locks j ≡ false) ⊎ (is_open_at_variables j ≡ false)
   pub alone : (v u : ℕ) → is_entered_at j v ≡ true → is_entered_at j u ≡ true → v ≡ u

@@ -169,7 +169,8 @@ impl<A: Allocator> Machines<A> {
         }
     }
 
-    /// Whether a thread may make a step of its call: it doesn't sleep, and isn't before a section while one is open.
+    /// Whether a thread may make a step of its call: it doesn't sleep, and isn't before a section that one which is
+    /// open keeps out.
     pub fn may_go(&self, thread: usize) -> bool
         ensures { result ≡ may_go self.now thread }
     {

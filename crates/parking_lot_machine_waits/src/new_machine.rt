@@ -1,5 +1,6 @@
 //! How a machine of locks and condition variables is made.
 ghost use Rattle.std.specs.Prelude.{◌≡◌, ◌<◌, ◌≤◌, ◌*◌, ◌↔◌, ◌⊎◌, ◌^◌, length, map, replicate, IsErrOf, IfErr, IfOk};
+ghost use Rattle.std.specs.Prelude.{true};
 ghost use Rattle.parking_lot_core_model.specs.declared.fault.SizeFault.TheVariants.{BadSize, NoMemory};
 ghost use Rattle.parking_lot_machine.specs.Machines.{at_rest};
 ghost use Rattle.parking_lot_machine.specs.Rows.{state};
@@ -25,7 +26,7 @@ impl<A: Allocator + Clone + Drop> Machines<A> {
     ) -> Result<Machines<A>, SizeFault>
         ensures size { IsErrOf result BadSize ↔
             ((threads ≡ 0) ⊎ (65536 < threads) ⊎ (length kinds.items ≡ 0) ⊎ (2 ^ 20 < length kinds.items)) }
-        ensures rows { IfOk result (λ machine. state machine.rows ≡ at_rest (2 * threads) kinds.items) }
+        ensures rows { IfOk result (λ machine. state machine.rows ≡ at_rest true (2 * threads) kinds.items) }
         ensures vars { IfOk result (λ machine. machine.vars ≡ map (var_of threads) variables.now) }
         ensures seats { IfOk result (λ machine. machine.seats ≡ replicate threads nowhere) }
     {

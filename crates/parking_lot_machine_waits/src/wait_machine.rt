@@ -57,7 +57,7 @@ impl<A: Allocator + Clone + Drop> WaitMachine<A> {
     ) -> Result<WaitMachine<A>, SizeFault>
         ensures size { IsErrOf result BadSize ↔
             ((threads ≡ 0) ⊎ (65536 < threads) ⊎ (length kinds.items ≡ 0) ⊎ (2 ^ 20 < length kinds.items)) }
-        ensures rows { IfOk result (λ machine. state machine.rows ≡ at_rest (2 * threads) kinds.items) }
+        ensures rows { IfOk result (λ machine. state machine.rows ≡ at_rest true (2 * threads) kinds.items) }
         ensures vars { IfOk result (λ machine. machine.vars ≡ map (var_of threads) variables.now) }
         ensures seats { IfOk result (λ machine. machine.seats ≡ replicate threads nowhere) }
     {
@@ -205,7 +205,8 @@ impl<A: Allocator> WaitMachine<A> {
         self.machines.may_call_at(thread, variable, call)
     }
 
-    /// Whether a thread may make a step of its call: it doesn't sleep, and isn't before a section while one is open.
+    /// Whether a thread may make a step of its call: it doesn't sleep, and isn't before a section that one which is
+    /// open keeps out.
     pub fn may_go(&self, thread: usize) -> bool
         ensures { result ≡ may_go self.now thread }
     {

@@ -1,6 +1,7 @@
 //! All schedules of threads at a condition variable and its mutexes: they come to what calls come to that are made
 //! whole, one after another, and to nothing else.
 
+mod crossed;
 mod notes;
 mod rules;
 mod three;
@@ -19,16 +20,32 @@ const MOST_MOVES: u32 = 40;
 /// No call at all.
 const NONE: Calls = [None; 3];
 
-/// Makes all schedules of some threads. Answers how many states there were.
+/// What is found on the way through all schedules.
+#[derive(Clone, Copy)]
+struct Found {
+    states: u64,
+    /// Whether sections of two locks were open at once.
+    beside: bool,
+}
+
+/// Makes all schedules of some threads.
 fn explore(
     rt: &(impl AllocGlobal + Abort),
     programs: Three<Calls>,
     threads: usize,
-) -> Result<u64, Fail> {
-    let found = Explorer::explore(rt, WaitWatch { programs, threads })?;
+) -> Result<Found, Fail> {
+    let watch = WaitWatch {
+        programs,
+        threads,
+        beside: false,
+    };
+    let found = Explorer::explore(rt, watch)?;
     let wanted = ends(rt, PlainWait::of(programs), MOST_MOVES)?;
     end_so(rt, programs, &found.broken, &found.ends, &wanted);
-    Ok(found.states)
+    Ok(Found {
+        states: found.states,
+        beside: found.watch.beside,
+    })
 }
 
 /// Those of some pairs of programs. Were there fewer states than the least, different ones might have been taken for
@@ -41,7 +58,7 @@ fn search(
     let mut states = 0u64;
     for (first, second) in &pairs_of(rt.alloc(), groups)? {
         let found = explore(rt, Three(*first, *second, NONE), 2)?;
-        states = states.saturating_add(found);
+        states = states.saturating_add(found.states);
     }
     assert!(rt; states >= least, "{states} states");
     Ok(())

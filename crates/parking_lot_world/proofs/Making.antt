@@ -47,7 +47,8 @@ none_of false b c d e f g = absurd cc
 none_of true false c d e f g = absurd cc
 none_of true true false d e f g = absurd cc
 
-module _ (w : Shown) (threads : ℕ) (rows_new : state w.waits.rows ≡ rows.at_rest (2 * threads) (map row_kind w.kinds))
+module _ (w : Shown) (threads : ℕ)
+    (rows_new : state w.waits.rows ≡ rows.at_rest true (2 * threads) (map row_kind w.kinds))
     (vars : w.waits.vars ≡ map (var_of threads) (map is_variable w.kinds))
     (seats : w.waits.seats ≡ replicate threads nowhere)
     (onces_new : w.onces ≡ once.at_rest threads (length w.kinds)) (answers : w.answers ≡ replicate threads None) where

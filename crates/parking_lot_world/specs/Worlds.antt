@@ -187,8 +187,8 @@ is_indebted w t = once_debts.is_in_debt w.onces t || sides.is_indebted w.waits t
 
 -- WHAT HOLDS TOGETHER
 
--- A thread is in a call of one machine at most, at a lock of a kind that is the machine's; and at most one section is
--- open.
+-- A thread is in a call of one machine at most, at a lock of a kind that is the machine's; and no section of one
+-- machine is open beside one of the other.
 pub record IsWhole (w : Shown) : Type 0 where
   pub wait_threads : length w.waits.seats ≡ length w.answers
   pub once_threads : length w.onces.calls ≡ length w.answers

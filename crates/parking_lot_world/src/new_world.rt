@@ -1,6 +1,6 @@
 //! How a world is made.
 ghost use Rattle.std.specs.Prelude.{◌≡◌, ◌<◌, ◌≤◌, ◌*◌, ◌↔◌, ◌⊎◌, ◌^◌, ◌≢◌, length, map, replicate, None, IsErrOf};
-ghost use Rattle.std.specs.Prelude.{IfErr, IfOk};
+ghost use Rattle.std.specs.Prelude.{IfErr, IfOk, true};
 ghost use Rattle.parking_lot_core_model.specs.declared.fault.SizeFault.TheVariants.{BadSize, NoMemory};
 ghost use Rattle.parking_lot_machine_sides.specs.Once.OnceActs as once;
 ghost use Rattle.parking_lot_machine_waits.specs.Joint.{nowhere};
@@ -34,7 +34,7 @@ impl<A: Allocator + Clone + Drop> World<A> {
             ((threads ≡ 0) ⊎ (65536 < threads) ⊎ (length locks.items ≡ 0) ⊎ (2 ^ 20 < length locks.items)) }
         ensures kinds { IfOk result (λ world. world.kinds ≡ locks.items) }
         ensures rows { IfOk result
-            (λ world. state world.waits.rows ≡ rows.at_rest (2 * threads) (map row_kind locks.items)) }
+            (λ world. state world.waits.rows ≡ rows.at_rest true (2 * threads) (map row_kind locks.items)) }
         ensures variables { IfOk result (λ world. world.waits.vars ≡ map (var_of threads) (map is_variable locks.items)) }
         ensures seats { IfOk result (λ world. world.waits.seats ≡ replicate threads nowhere) }
         ensures onces { IfOk result (λ world. world.onces ≡ once.at_rest threads (length locks.items)) }
@@ -54,7 +54,7 @@ impl<A: Allocator + Clone + Drop> World<A> {
         ensures err { IfErr result (λ fault. fault ≡ NoMemory) }
         ensures kinds { IfOk result (λ world. world.kinds ≡ locks.items) }
         ensures rows { IfOk result
-            (λ world. state world.waits.rows ≡ rows.at_rest (2 * threads) (map row_kind locks.items)) }
+            (λ world. state world.waits.rows ≡ rows.at_rest true (2 * threads) (map row_kind locks.items)) }
         ensures variables { IfOk result (λ world. world.waits.vars ≡ map (var_of threads) (map is_variable locks.items)) }
         ensures seats { IfOk result (λ world. world.waits.seats ≡ replicate threads nowhere) }
         ensures onces { IfOk result (λ world. world.onces ≡ once.at_rest threads (length locks.items)) }
@@ -81,7 +81,7 @@ fn waits_of<A: Allocator + Clone + Drop>(
     requires threads { (0 < threads) × (threads ≤ 65536) }
     requires locks { (0 < length kinds.now) × (length kinds.now ≤ 2 ^ 20) }
     ensures err { IfErr result (λ fault. fault ≡ NoMemory) }
-    ensures rows { IfOk result (λ machine. state machine.rows ≡ rows.at_rest (2 * threads) (map row_kind kinds.now)) }
+    ensures rows { IfOk result (λ machine. state machine.rows ≡ rows.at_rest true (2 * threads) (map row_kind kinds.now)) }
     ensures variables { IfOk result (λ machine. machine.vars ≡ map (var_of threads) (map is_variable kinds.now)) }
     ensures seats { IfOk result (λ machine. machine.seats ≡ replicate threads nowhere) }
 {

@@ -21,8 +21,11 @@ use std::marker::Model;
 ///
 /// Nothing in it moves by itself: [`run`](World::run) is told which thread makes each step. A step is one atomic act of
 /// a thread's call, as a load of the lock's word, an exchange, entering a section, or running a closure, and it is done
-/// whole. At most one section is open in the whole world. Its code takes nothing from outside, so a run can be
-/// repeated; no clause says that it ends the same.
+/// whole. Its code takes nothing from outside, so a run can be repeated; no clause says that it ends the same.
+///
+/// A list's bucket is its key modulo the number of buckets: the least power of two from 16 on that is three times as
+/// many as the threads, or more. While a section of a lock's list is open, none of a list of that bucket is entered;
+/// one of another bucket may be. A section of a condition variable or a once is open alone.
 ///
 /// The locks have the numbers of their kinds in the list that the world is made with, and threads are numbered from 0.
 /// It takes all memory that its runs need where it is made.
@@ -237,7 +240,7 @@ impl<A: Allocator> World<A> {
     /// doesn't own or asks for a lock that it owns, but for a reader of a recursive lock that reads again and has fewer
     /// than 255 holds; that of a
     ///   wait also where its mutex is no lock of the kind `Mutex` that the thread owns;
-    /// - `Go` where the thread is in no call, sleeps, or is before a section while one is open;
+    /// - `Go` where the thread is in no call, sleeps, or is before a section that one which is open keeps out;
     /// - `Deadline` where the thread doesn't sleep in a timed call, or its deadline has come before in that sleep.
     pub fn run(&mut self, steps: &[WorldStep]) -> Result<(), WorldFault>
         ensures ran { Ran self.old (take (steps_done result (length steps.now)) steps.now) self.new }

@@ -10,17 +10,17 @@ use Rattle.lock_api_desk.specs.declared.mode.Mode.TheVariants as held
 use Rattle.lock_api_desk.specs.Desk.{DeskState}
 use Rattle.lock_api_desk.specs.Guards.{Guard as DeskGuard}
 use Rattle.parking_lot_core_model.specs.declared.place.Section.{Section}
-use Rattle.parking_lot_core_model.specs.Places.{place_at}
 use Rattle.parking_lot_rules.specs.Any.{AnySound}
 use Rattle.parking_lot_rules.specs.Lock.{IsSound}
 use Rattle.parking_lot_rules.specs.Roles.{Idle, Role, away}
 use Rattle.parking_lot_rules.proofs.Following.{nothing_is_left}
+use Rattle.parking_lot_machine.proofs.LotActs.{no_section}
 use Rattle.parking_lot_machine.proofs.RwMoving.{number-word}
 use Rattle.parking_lot_machine_calls.specs.declared.seat.Hold.{Hold as LockHold}
 use Rattle.parking_lot_machine_calls.specs.declared.open_call.Call.{Call}
 use Rattle.parking_lot_machine_calls.specs.CallViews.{rw_mode}
-use Rattle.parking_lot_machine.specs.RowFits.{Seated}
-use Rattle.parking_lot_machine.specs.Rows.{call_at, first_key, hold_at, inside, queue_at, rw_lock_at}
+use Rattle.parking_lot_machine.specs.RowFits.{SeatedIn}
+use Rattle.parking_lot_machine.specs.Rows.{call_at, entered_in, first_key, hold_at, queue_at, rw_lock_at}
 use Rattle.parking_lot_machine.specs.Rows.{rw_role_at, rw_role_in, second_key, state, taken_by, word_at}
 use Rattle.parking_lot_machine_calls.specs.CallRoles.{owned_of}
 use Rattle.parking_lot_machine.specs.Rows as rows
@@ -205,13 +205,13 @@ module _ {K V S D T A : Type 0} (machine : Always SomebodyCanMove) (x : Setup K 
   queue-none key (suc n) odd = let is : second_key (key / 2) ≡ key = omega (arith, odd) in
       subst (λ k. queue_at s k ≡ []) is (second-none (key / 2))
 
-  section-none : (o : Option Section) → s.lot.section ≡ o → inside s ≡ None
-  section-none None is = ap (option_and_then (λ (section : Section). section.thread)) is
-  section-none (Some section) is =
-      let opened = whole.locks.fits.lots.opened section is in
-      let seated = subst (λ (o : Option Call). Seated opened.0 o (place_at s.lot.places opened.0) s.lot.section)
-      (out opened.0) (whole.locks.fits.lots.seated opened.0 opened.2) in
-      absurd (seated.1 section is opened.1)
+  section-none : (bucket : ℕ) (o : Option Section) → s.lot.sections bucket ≡ o → entered_in s bucket ≡ None
+  section-none bucket None is = ap (option_and_then (λ (section : Section). section.thread)) is
+  section-none bucket (Some section) is =
+      let opened = whole.locks.fits.lots.opened bucket section is in
+      let seated = subst (λ (o : Option Call). SeatedIn s.lot opened.0 o) (out opened.0)
+      (whole.locks.fits.lots.seated opened.0 opened.2) in
+      absurd (no_section s whole.locks.fits.lots opened.0 bucket section seated.1 is opened.1)
 
   pub ends_at_rest : IsAtRest w
   ends_at_rest = record {
@@ -222,7 +222,7 @@ module _ {K V S D T A : Type 0} (machine : Always SomebodyCanMove) (x : Setup K 
       owners = owners;
       words = word-none;
       queues = λ key. queue-none key (key % 2) refl;
-      section = section-none s.lot.section refl;
+      sections = λ bucket. section-none bucket (s.lot.sections bucket) refl;
       desks = desk-none;
     };
   }

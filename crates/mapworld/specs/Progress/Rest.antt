@@ -1,7 +1,7 @@
 -- A world whose calls are all answered.
 use Rattle.std.specs.Prelude.{◌≡◌, ℕ, [], None, Some, slice_get}
 use Rattle.lock_api_desk.specs.Desk.{DeskState}
-use Rattle.parking_lot_machine.specs.Rows.{state, inside, queue_at}
+use Rattle.parking_lot_machine.specs.Rows.{entered_in, queue_at, state}
 use Rattle.mapworld_state.specs.Locks.Stands.{stand_in}
 use Rattle.mapworld_state.specs.Locks.Views.{Shown, owner_in}
 use Rattle.mapworld_state.specs.declared.place.Phase.TheVariants as phase
@@ -17,7 +17,7 @@ pub record AreFree (locks : Shown) : Type 0 where
   pub owners : (shard t : ℕ) → owner_in locks shard t ≡ None
   pub words : (shard : ℕ) → word_of locks shard ≡ 0
   pub queues : (key : ℕ) → queue_at (state locks.rows) key ≡ []
-  pub section : inside (state locks.rows) ≡ None
+  pub sections : (bucket : ℕ) → entered_in (state locks.rows) bucket ≡ None
   pub desks : (shard : ℕ) (desk : DeskState (Unit {0})) → slice_get locks.desks shard ≡ Some desk → desk.guards ≡ []
 
 -- a thread has no call left, and holds nothing

@@ -15,7 +15,7 @@ use Rattle.parking_lot_machine.specs.Machines.{Became, BecameInside, BecameLate,
 use Rattle.parking_lot_machine.specs.Machines.{end_of}
 use Rattle.parking_lot_machine.specs.RowActs.{begun}
 use Rattle.parking_lot_machine.specs.RowFits.{FitsTogether}
-use Rattle.parking_lot_machine.specs.Rows.{State, call_at, state}
+use Rattle.parking_lot_machine.specs.Rows.{State, call_at, open_at, state}
 use Rattle.parking_lot_machine.proofs.Acting.{laws}
 use Rattle.parking_lot_machine.proofs.Requesting.{may_begins}
 use Rattle.parking_lot_machine.proofs.Stepping as steps
@@ -26,7 +26,7 @@ use Rattle.parking_lot_machine.specs.LateLaws.{Expires}
 use Rattle.parking_lot_machine.proofs.LateActs.{laws as late_laws}
 use Rattle.parking_lot_machine.proofs.LateCalls.{found_sound, quit_sound}
 use Rattle.parking_lot_machine.proofs.Stepping.{expires_so}
-use Rattle.parking_lot_machine_calls.specs.LateCalls.{comes_late, is_back}
+use Rattle.parking_lot_machine_calls.specs.LateCalls.{comes_late, is_back, late_key}
 use Rattle.parking_lot_machine_calls.specs.declared.late_rw.LateRwPhase.{LateRwPhase}
 use Rattle.parking_lot_machine_calls.specs.declared.seat.LatePhase.{LatePhase}
 use Rattle.parking_lot_machine_calls.specs.declared.seat.QueuePosition.{QueuePosition}
@@ -59,9 +59,9 @@ lawful-begins t shard call old new fit b =
 
 module _ (s u : State) (t : ℕ) (fair : Bool) (fits : FitsTogether s) (c : Call)
     (here : call_at s t ≡ Some c) where
-  -- One whose deadline has come comes back where nobody is in a section, and takes itself out there, or finds that it
+  -- One whose deadline has come comes back where nobody is in a section of its bucket, and takes itself out there, or finds that it
   -- was taken.
-  back_in : comes_late c.core ≡ true → s.lot.section ≡ None → (at : QueuePosition) → c.spot ≡ at
+  back_in : comes_late c.core ≡ true → open_at s (late_key c) ≡ None → (at : QueuePosition) → c.spot ≡ at
       → u ≡ came_back at s t c → IsStepped t fair None s u
   back_in comes free QueuePosition.Listed is e = steps.come_back s u t c fair fits here comes is free e
   back_in comes free (QueuePosition.Off by said) is e =

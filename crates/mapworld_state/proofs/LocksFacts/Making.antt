@@ -25,7 +25,7 @@ use Rattle.mapworld_state.proofs.LocksFacts.Lists.{all_at}
 use Rattle.mapworld_state.proofs.LocksFacts.Together.{holders_are_threads}
 
 module _ (threads shards : ℕ) (rows : Rows) (desks : List (DeskState (Unit {0})))
-    (made : state rows ≡ at_rest threads (replicate shards kind.Rw)) (fits : FitsTogether (state rows))
+    (made : state rows ≡ at_rest false threads (replicate shards kind.Rw)) (fits : FitsTogether (state rows))
     (empty : All (IsEmptyFor threads) desks)
     (count : length desks ≡ shards) where
   abbrev u : State

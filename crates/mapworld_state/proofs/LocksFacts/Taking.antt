@@ -19,8 +19,8 @@ use Rattle.parking_lot_machine_calls.specs.declared.seat.WakeResult.{WakeResult}
 use Rattle.parking_lot_machine_calls.specs.declared.seat.Wakeup.{Wakeup}
 use Rattle.parking_lot_machine.specs.Machines.{Became, BecameInside, IsStepped}
 use Rattle.parking_lot_machine_calls.specs.CallActs.{settled, settled_spot, told_of}
-use Rattle.parking_lot_machine.specs.RowFits.{FitsTogether, IsAt, Seated, Stands}
-use Rattle.parking_lot_machine.specs.Rows.{State, call_at, is_by, taken_by}
+use Rattle.parking_lot_machine.specs.RowFits.{FitsTogether, IsAt, SeatedIn, Stands}
+use Rattle.parking_lot_machine.specs.Rows.{State, call_at, is_by, open_at, taken_by}
 use Rattle.parking_lot_machine_calls.specs.Stances.{Asleep, Stance, core_act, stance}
 use Rattle.parking_lot_machine.specs.TellLaws.{IsDue}
 use Rattle.mapworld_state.proofs.LocksFacts.Calls.{call_of, late_is, slot}
@@ -75,15 +75,15 @@ told_something token e = at (token.0 == 1) e
     at false e = false≢true (ap is_nothing e)
 
 abbrev is_taken : Option Place → Bool
-is_taken (Some (Place.Taken token sleep woken)) = true
+is_taken (Some (Place.Taken token key sleep woken)) = true
 is_taken other = false
 
 -- it stands off its list, and nothing was said to it: then its place isn't that of one who is to be woken
-not_due : (by key : ℕ) (place : Option Place) (section : Option Section)
-    → IsAt (QueuePosition.Off by WakeResult.Nothing) place section key → is_taken place ≡ true → ⊥
-not_due by key place section (sleep, late, inl (held, opened, is_it, own, said)) is =
+not_due : (by key : ℕ) (place : Option Place) (sections : ℕ → Option Section)
+    → IsAt (QueuePosition.Off by WakeResult.Nothing) place sections key → is_taken place ≡ true → ⊥
+not_due by key place sections (sleep, late, inl (held, opened, is_it, own, said)) is =
     false≢true (sym (ap is_taken held) ∙ is)
-not_due by key place section (sleep, late, inr (token, place_is, said)) is = told_something token (sym said)
+not_due by key place sections (sleep, late, inr (token, place_is, said)) is = told_something token (sym said)
 
 -- a thread that was taken by another, and isn't told yet
 pub record IsUntold (s : State) (v : ℕ) (d : Call) : Type 0 where
@@ -160,7 +160,7 @@ module _ (s : State) (h : FitsTogether s) (t : ℕ) (c : Call) (here : call_at s
       → ResultOf (slice_set (slice_set s.calls e.thread o) t p) ws
   wakes e d2 token o p ws due = elim (cases_eq v e.thread) [
     | inr ne ↦ inl (two e.thread o p ne)
-    | inl eq ↦ absurd (not_due x.by (2 * d.lock + x.key) (place_at s.lot.places v) s.lot.section off_list_place
+    | inl eq ↦ absurd (not_due x.by (2 * d.lock + x.key) (place_at s.lot.places v) (open_at s) off_list_place
         (taken_place eq))
   ]
     where
@@ -170,17 +170,17 @@ module _ (s : State) (h : FitsTogether s) (t : ℕ) (c : Call) (here : call_at s
       low : v < length s.calls
       low = slice_get_within s.calls v (Some d) (slot s.calls v d x.there)
 
-      stands : Stands v d.lock (stance d.core) d.spot (place_at s.lot.places v) s.lot.section
-      stands = subst (λ (o : Option Call). Seated v o (place_at s.lot.places v) s.lot.section) x.there
-          (h.lots.seated v low)
+      stands : Stands v d.lock (stance d.core) d.spot (place_at s.lot.places v) (s.lot.inside v) (open_at s)
+      stands = subst (λ (o : Option Call). SeatedIn s.lot v o) x.there (h.lots.seated v low)
 
-      off_list_place : IsAt (QueuePosition.Off x.by WakeResult.Nothing) (place_at s.lot.places v) s.lot.section
+      off_list_place : IsAt (QueuePosition.Off x.by WakeResult.Nothing) (place_at s.lot.places v) (open_at s)
           (2 * d.lock + x.key)
       off_list_place = (subst
-          (λ (at : QueuePosition). Stands v d.lock (Asleep x.key x.token) at (place_at s.lot.places v) s.lot.section)
+          (λ (at : QueuePosition). Stands v d.lock (Asleep x.key x.token) at (place_at s.lot.places v) (s.lot.inside v)
+          (open_at s))
           x.off
-          (subst (λ (st : Stance). Stands v d.lock st d.spot (place_at s.lot.places v) s.lot.section) x.asleep
-          stands)).0
+          (subst (λ (st : Stance). Stands v d.lock st d.spot (place_at s.lot.places v) (s.lot.inside v) (open_at s))
+          x.asleep stands)).0
 
   goes_inside : (k : SectionAct) (fair : Bool) (u : State) → BecameInside k t fair c s u → Result u
   goes_inside SectionAct.Check fair u e = is u _ e (inl (apart _))

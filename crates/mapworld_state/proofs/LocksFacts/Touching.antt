@@ -19,7 +19,7 @@ use Rattle.parking_lot_machine_calls.specs.declared.late_rw.LateRwPhase.{LateRwP
 use Rattle.parking_lot_machine_calls.specs.declared.seat.LatePhase.{LatePhase}
 use Rattle.parking_lot_machine_calls.specs.declared.seat.QueuePosition.{QueuePosition}
 use Rattle.parking_lot_machine.specs.LateActs.{came_back, others_left, out_of_list}
-use Rattle.parking_lot_machine_calls.specs.LateCalls.{is_pending}
+use Rattle.parking_lot_machine_calls.specs.LateCalls.{is_pending, late_key}
 use Rattle.parking_lot_machine.specs.Machines.{Became, BecameInside, BecameLate, IsStepped}
 use Rattle.parking_lot_machine.specs.RowActs.{with_call, with_lot}
 use Rattle.parking_lot_machine_calls.specs.CallActs.{hears, key_of}
@@ -82,7 +82,7 @@ module _ (s : State) (t : ℕ) (c : Call) where
   -- one whose moment has passed takes itself out of its list
   goes_out : (left b : Bool)
       → Result (with_lot (with_call s t (hears c (ActResult.Took None left)))
-      (cond b (stored (out_of_list s t c) (sign false)) (out_of_list s t c)))
+      (cond b (stored (out_of_list s t c) (late_key c) (sign false)) (out_of_list s t c)))
   goes_out left true = inr (bit (is_pending c.core), λ j. refl, λ key ne. other_list (bit (is_pending c.core)) _ key ne)
   goes_out left false =
       inr (bit (is_pending c.core), λ j. refl, λ key ne. other_list (bit (is_pending c.core)) _ key ne)

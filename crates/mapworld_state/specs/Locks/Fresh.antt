@@ -1,5 +1,5 @@
 -- How shards' locks are made.
-use Rattle.std.specs.Prelude.{◌≡◌, ℕ, ◌≤◌, [], length, replicate, None}
+use Rattle.std.specs.Prelude.{◌≡◌, ℕ, ◌≤◌, false, [], length, replicate, None}
 use Rattle.std.specs.List.{All}
 use Rattle.lock_api_desk.specs.Desk.{DeskState}
 use Rattle.parking_lot_machine_calls.specs.declared.calls.LockKind.TheVariants as kind
@@ -16,7 +16,7 @@ pub record IsEmptyFor (threads : ℕ) (desk : DeskState (Unit {0})) : Type 0 whe
 
 -- nobody has done anything
 pub record AreFresh (threads shards : ℕ) (sh : Shown) : Type 0 where
-  pub rows : state sh.rows ≡ at_rest threads (replicate shards kind.Rw)
+  pub rows : state sh.rows ≡ at_rest false threads (replicate shards kind.Rw)
   pub desks : All (IsEmptyFor threads) sh.desks
   pub count : length sh.desks ≡ shards
   pub free : (t : ℕ) → stand_in sh t ≡ None

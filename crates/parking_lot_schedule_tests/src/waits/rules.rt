@@ -43,14 +43,9 @@ impl Moment<'_> {
     /// In no call it owns what its calls have left it.
     fn owns_what_it_should(self, thread: usize) -> bool {
         let caller = self.callers.of(thread);
-        let owned = if self.mutex(M).mode(thread).is_some() {
-            Some(M)
-        } else {
-            caller
-                .owns
-                .filter(|mutex| self.mutex(*mutex).mode(thread).is_some())
-        };
-        caller.open.is_some() || owned == caller.owns
+        let first = self.mutex(M).mode(thread).is_some();
+        let other = self.mutex(OTHER).mode(thread).is_some();
+        caller.open.is_some() || caller.owns == Three(first, false, other)
     }
 
     /// Who stands in the variable's list is in a wait that isn't answered, and stands in no other.

@@ -28,7 +28,7 @@ fn search(
     third: Calls,
     least: u64,
 ) -> Result<(), Fail> {
-    let states = explore(rt, Three(first, second, third), 3)?;
+    let states = explore(rt, Three(first, second, third), 3)?.states;
     assert!(rt; states >= least, "{states} states");
     Ok(())
 }

@@ -77,6 +77,8 @@ fn noted(
 pub struct WaitWatch {
     pub programs: Three<Calls>,
     pub threads: usize,
+    /// Whether sections of two locks were open at once.
+    pub beside: bool,
 }
 
 impl Watch for WaitWatch {
@@ -136,6 +138,7 @@ impl Watch for WaitWatch {
     }
 
     fn look(&mut self, at: &Seen<Notes>) -> Option<&'static str> {
+        self.beside = self.beside || at.world.open_sections > 1;
         broken_by_state(Moment::of(at))
     }
 

@@ -1,5 +1,5 @@
 use Rattle.std.proofs.Common.{◌≡◌, ◌∙◌, ap, sym, subst, Bool, true, false, ℕ, Option, None, Some, is_some, not, Result}
-use Rattle.std.proofs.Common.{Ok, Err, if◌then◌else◌, rules}
+use Rattle.std.proofs.Common.{Ok, if◌then◌else◌, rules}
 use Rattle.std.specs.Result.{result_ok, is_ok}
 use Rattle.std.specs.Option.{option_and_then}
 use Rattle.std.proofs.lemmas.Bool.{false≢true}
@@ -35,11 +35,11 @@ returns-clause-joined g c =
     let held : WasHeld old new = search rules in
     let validates : Bool → Type 0 = λ valid. goal.V-post g c.args.validate valid in
     let same = told validates c.args.thread c.args.key c.args.park_token c.args.timed old new c.in-Ok.ended
-    (enter_fault old c.args.thread) c.is_none.result c.is_none.ensures lot in (
+    (enter_fault old c.args.thread c.args.key) c.is_none.result c.is_none.ensures lot in (
       old,
       new,
-      c.park-parked.ensures.sound,
-      subst (λ o. Does (λ m. enter_fault m c.args.thread)
+      c.park-parked.ensures.quiet,
+      subst (λ o. Does (λ m. enter_fault m c.args.thread c.args.key)
           (Parks validates c.args.thread c.args.key c.args.park_token c.args.timed) old (Ok o) new) same lot,
       held,
     )

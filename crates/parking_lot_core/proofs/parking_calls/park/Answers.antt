@@ -1,4 +1,4 @@
-use Rattle.std.proofs.Common.{◌≡◌, ◌≢◌, ◌∙◌, ap, sym, subst, is_some, Bool, true, false, ℕ, Option, None, Some, Result}
+use Rattle.std.proofs.Common.{◌≢◌, ◌∙◌, ap, sym, subst, is_some, Bool, true, false, ℕ, Option, None, Some, Result}
 use Rattle.std.proofs.Common.{Ok, rules}
 use Rattle.std.specs.Result.{is_ok, result_ok}
 use Rattle.std.specs.Option.{option_map_or}
@@ -29,8 +29,8 @@ module _ (tells : ℕ → Bool → Type 0) (thread : ℕ) (old new : Machine) (e
   valid (Some fault) place d e = false≢true (sym (ap is_ok d.0))
   valid None None d e = d
   valid None (Some Running) d e = d
-  valid None (Some (Held sleep)) d e = d
-  valid None (Some (Taken token sleep woken)) (is, left) e = false≢true (sym (ap told_invalid is) ∙ ap is_invalid e)
+  valid None (Some (Held key sleep)) d e = d
+  valid None (Some (Taken token key sleep woken)) (is, left) e = false≢true (sym (ap told_invalid is) ∙ ap is_invalid e)
   valid None (Some (Waiting key sleep)) (is, left, late) e = false≢true (sym (ap told_invalid is) ∙ ap is_invalid e)
 
 pub returns-clause-joined : goal.returns-clause-joined
@@ -43,17 +43,19 @@ returns-clause-joined g c =
     let ended : c.in-Ok.ended ≢ Invalid = valid tells thread old new c.in-Ok.ended (resume_fault old thread)
     (place_at old.places thread) c.in-Ok.ensures.lot in
     let begun : OnSomeLot
-    (Does (λ m. enter_fault m thread) (Parks validates thread c.args.key c.args.park_token c.is_some.result)) None =
+    (Does (λ m. enter_fault m thread c.args.key)
+    (Parks validates thread c.args.key c.args.park_token c.is_some.result)) None =
     c.if-not-begin.ensures.joined in
     let known : OnSomeLot
-    (Does (λ m. enter_fault m thread)
+    (Does (λ m. enter_fault m thread c.args.key)
     (Parks validates thread c.args.key c.args.park_token (is_some c.args.timeout))) None =
-    subst (λ b. OnSomeLot (Does (λ m. enter_fault m thread) (Parks validates thread c.args.key c.args.park_token b))
+    subst (λ b. OnSomeLot (Does (λ m. enter_fault m thread c.args.key)
+    (Parks validates thread c.args.key c.args.park_token b))
     None) c.is_some.ensures begun in (
       true,
       ended,
       subst
-          (λ t. OnSomeLot (Does (λ m. enter_fault m t)
+          (λ t. OnSomeLot (Does (λ m. enter_fault m t c.args.key)
           (Parks validates t c.args.key c.args.park_token (is_some c.args.timeout))) None)
           (ap (λ t. t.thread) c.thread_data.view_is) known,
     )
@@ -65,4 +67,4 @@ returns-clause-ended g c =
     let tells : ℕ → Bool → Type 0 = λ key last. goal.T-post g c.args.timed_out key last tt in
     let held : WasHeld old new = search rules in
     λ _. subst (λ t. OnSomeLot (Does (λ m. resume_fault m t) (Resumes tells t)) c.in-Ok.ended)
-    (ap (λ t. t.thread) c.thread_data.view_is) (old, new, c.resume-resumed.ensures.sound, c.in-Ok.ensures.lot, held)
+    (ap (λ t. t.thread) c.thread_data.view_is) (old, new, c.resume-resumed.ensures.quiet, c.in-Ok.ensures.lot, held)

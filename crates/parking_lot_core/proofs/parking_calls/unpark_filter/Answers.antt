@@ -7,4 +7,4 @@ pub returns-clause-done : goal.returns-clause-done
 returns-clause-done g c =
     let old = machine c.deref_mut.result.now.lot in
     let new = machine c.unpark_filter-done.new.self.lot in
-    let held : WasHeld old new = search rules in (_, (old, new, c.in-Ok.ensures.sound, c.in-Ok.ensures.lot, held))
+    let held : WasHeld old new = search rules in (_, (old, new, c.in-Ok.ensures.quiet, c.in-Ok.ensures.lot, held))

@@ -11,6 +11,6 @@ loop-place-preserved c =
     let ys = c.loop-place.places in
     let i = c.loop-place.place-index in
     let within : i < length ys = omega arith in
-    ap (set ys i) c.place_told.ensures ∙ map_over_more (option_map (told c.args.token c.args.woken)) xs ys i
+    ap (set ys i) c.place_told.ensures ∙ map_over_more (option_map (told c.args.key c.args.token c.args.woken)) xs ys i
     (get_or ys i None) c.loop-place-test.true c.loop-place.invariant
     (sym (get_or_from_slice_get ys i (get_or ys i None) (get_or ys i None) (slice_get-get_or ys i None within)))

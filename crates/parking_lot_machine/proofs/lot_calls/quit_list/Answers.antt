@@ -1,13 +1,33 @@
-use Rattle.std.proofs.Common.{ap, ◌∙◌}
-use Rattle.parking_lot_core_model.specs.Machine.{machine, step_fault}
+use Rattle.std.proofs.Common.{ℕ, Option, ap, ◌∙◌}
+use Rattle.std.specs.Option.{option_map_or}
+use Rattle.parking_lot_core_model.specs.declared.place.Phase.{Phase}
+use Rattle.parking_lot_core_model.specs.declared.place.Section.{Section}
+use Rattle.parking_lot_core_model.specs.Machine.{Machine, given_up, in_phase, machine, quitted, section_of, step_fault}
 use Rattle.parking_lot_core_model.specs.Places.{may_store}
-use Rattle.parking_lot_machine.proofs.LateCalls.{quits_out, quits_store, unless_none}
+use Rattle.parking_lot_machine.proofs.LateCalls.{now_phase, quits_out, quits_store, unless_none}
+use Rattle.parking_lot_machine.proofs.LotCalls.{own_section}
 use Rattle.parking_lot_machine.proofs.lot_calls.quit_list.Goals as goal
 
 pub returns-clause-out : goal.returns-clause-out
 returns-clause-out g c =
-    (unless_none _ _ _ _ _ c.requires.there c.quit.ensures).1 ∙ quits_out (machine c.args.lot.now) c.args.thread
-    c.args.key c.requires.waits.0 c.requires.waits.1
+    let m : Machine = machine c.args.lot.now in
+    let in_it = c.requires.inside in
+    (unless_none _ _ _ _ _ c.requires.there c.quit.ensures).1
+    ∙ ap (λ (x : Option Section). option_map_or (λ (s : Section). quitted m c.args.thread s.key) x m)
+    (own_section m c.args.thread c.args.key in_it.0 in_it.1 in_it.2)
+    ∙ ap (λ (k : ℕ). quitted m c.args.thread k) in_it.3
+    ∙ quits_out m c.args.thread c.args.key c.requires.waits.0 c.requires.waits.1
+
+pub returns-clause-within : goal.returns-clause-within
+returns-clause-within g c =
+    let m : Machine = machine c.args.lot.now in
+    let in_it = c.requires.inside in (
+      record in_it.0 { phase = Phase.Ended },
+      ap (λ (n : Machine). section_of n c.args.thread) (returns-clause-out g c)
+          ∙ own_section (in_phase (given_up m c.args.thread c.args.key) c.args.key Phase.Ended) c.args.thread c.args.key (record in_it.0 { phase = Phase.Ended }) in_it.1
+          (now_phase (given_up m c.args.thread c.args.key) c.args.key in_it.0 Phase.Ended in_it.2),
+      in_it.3,
+    )
 
 pub returns-clause-store : goal.returns-clause-store
 returns-clause-store g c =

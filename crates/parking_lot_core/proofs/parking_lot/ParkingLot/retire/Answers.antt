@@ -9,4 +9,4 @@ returns g c =
     let new = machine c.retire-retired.new.self.lot in
     let held : WasHeld old new = search rules in
     subst (λ t. OnSomeLot (Does (λ m. retire_fault m t) (Makes (λ m. retired m t))) c.in-Ok.field-0)
-    c.thread_number.ensures (old, new, c.retire-retired.ensures.sound, c.in-Ok.ensures.lot, held)
+    c.thread_number.ensures (old, new, c.retire-retired.ensures.quiet, c.in-Ok.ensures.lot, held)

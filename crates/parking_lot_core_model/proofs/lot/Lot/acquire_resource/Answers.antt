@@ -1,5 +1,7 @@
 use Rattle.std.proofs.Common.{◌≡◌, ◌∙◌, ◌∷◌, ◌++◌, [], sym, ap, subst, refl, Some, None, is_some, List, Option}
 use Rattle.std.proofs.Common.{slice_set, true, false, cond, arith}
+use Rattle.std.proofs.Common.{length}
+use Rattle.parking_lot_core_model.specs.Buckets.{slot}
 use Rattle.parking_lot_core_model.specs.declared.place.Place.{Place}
 use Rattle.parking_lot_core_model.specs.declared.place.Place.TheVariants.{Running, Waiting, Held, Taken}
 use Rattle.parking_lot_core_model.specs.Lists.{lists_of, updated}
@@ -14,11 +16,13 @@ invariant_of-self-2 g c =
     let p : Parts = record {
       number = l.number;
       max_threads = l.max_threads;
+      paired = l.paired;
       sleeps = l.sleeps;
       waiting = l.waiting.entries.items;
       owned = l.owned.entries.items;
       places = l.places.items;
-      section = l.section;
+      by_bucket = l.buckets.by_bucket.items;
+      by_thread = l.buckets.by_thread.items;
     }
     in
     let there : is_some (place_at p.places c.args.thread) ≡ true = ap (λ v. is_some (place_at v.places c.args.thread))

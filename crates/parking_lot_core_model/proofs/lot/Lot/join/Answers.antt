@@ -1,6 +1,8 @@
 use Rattle.std.proofs.Common.{◌≡◌, ◌∙◌, ◌∷◌, ◌++◌, ◌+◌, ◌%◌, ◌^◌, [], sym, ap, subst, refl, ℕ, Some, None, is_some}
 use Rattle.std.proofs.Common.{List, Option, slice_get, slice_set, map, true, false, cond, arith}
 use Rattle.std.specs.Option.{option_map}
+use Rattle.std.proofs.Common.{length}
+use Rattle.parking_lot_core_model.specs.Buckets.{slot}
 use Rattle.parking_lot_core_model.specs.declared.place.Place.{Place}
 use Rattle.parking_lot_core_model.specs.declared.place.Place.TheVariants.{Running, Waiting, Held, Taken}
 use Rattle.parking_lot_core_model.specs.declared.place.Section.{Section}
@@ -18,16 +20,18 @@ push-requires g c =
     let p : Parts = record {
       number = l.number;
       max_threads = l.max_threads;
+      paired = l.paired;
       sleeps = l.sleeps;
       waiting = l.waiting.entries.items;
       owned = l.owned.entries.items;
       places = l.places.items;
-      section = l.section;
+      by_bucket = l.buckets.by_bucket.items;
+      by_thread = l.buckets.by_thread.items;
     }
     in
     let at : place_at p.places c.args.thread ≡ Some Running = ap (λ v. place_at v.places c.args.thread) c.self.view_is
     ∙ c.requires.runs in
-    room_left l.waiting p.places p.max_threads c.args.thread c.self.invariant.1 at
+    room_left l.waiting p.places p.max_threads (length p.by_thread) c.args.thread c.self.invariant.1 at
 
 pub invariant_of-self : goal.invariant_of-self
 invariant_of-self g c =
@@ -35,11 +39,13 @@ invariant_of-self g c =
     let p : Parts = record {
       number = l.number;
       max_threads = l.max_threads;
+      paired = l.paired;
       sleeps = l.sleeps;
       waiting = l.waiting.entries.items;
       owned = l.owned.entries.items;
       places = l.places.items;
-      section = l.section;
+      by_bucket = l.buckets.by_bucket.items;
+      by_thread = l.buckets.by_thread.items;
     }
     in
     let at : place_at p.places c.args.thread ≡ Some Running = ap (λ v. place_at v.places c.args.thread) c.self.view_is
@@ -48,5 +54,6 @@ invariant_of-self g c =
     (record p { sleeps = (p.sleeps + 1) % 2 ^ 64; waiting = c.push.new.self.entries.items; places = ps })
     c.push.new.self) (sym c.put.ensures)
     (joined_parts p l.waiting c.push.new.self c.args.thread c.args.key c.args.token c.args.timed c.self.invariant at
-    (λ s is. c.requires.outside s (ap (λ v. v.section) (sym c.self.view_is) ∙ is)) c.push.ensures.kept
+    (λ k is. c.requires.near k (ap (λ v. (machine v).inside c.args.thread) (sym c.self.view_is) ∙ is))
+    (λ b s is. c.requires.outside b s (ap (λ v. (machine v).sections b) (sym c.self.view_is) ∙ is)) c.push.ensures.kept
     c.push.ensures.total c.push.ensures.room)

@@ -1,5 +1,5 @@
 use Rattle.std.proofs.Common.{◌≡◌, ◌∙◌, ◌<◌, length, sym, ap, arith}
-use Rattle.parking_lot_core_model.specs.Machine.{Machine, machine, moved_first}
+use Rattle.parking_lot_core_model.specs.Machine.{Machine, machine, moved_first, open_at}
 use Rattle.parking_lot_core_model.proofs.Moving.{moved_none, moved_more, nth_of}
 use Rattle.parking_lot_core_model.proofs.lot.Lot.move_all.Goals as goal
 
@@ -13,3 +13,7 @@ loop-nth-preserved g c =
     c.move_first.ensures
     ∙ (ap (λ (x : Machine). moved_first x c.args.from c.args.to) c.loop-nth.invariant
     ∙ moved_more m c.args.from c.args.to c.loop-nth.nth w.0 w.1)
+
+pub move_first-requires : goal.move_first-requires
+move_first-requires g c = λ s at. c.requires.nobody s
+    (ap (λ (m : Machine). open_at m c.args.from) (sym c.loop-nth.invariant) ∙ at)

@@ -1,6 +1,8 @@
 use Rattle.std.proofs.Common.{◌≡◌, ◌∙◌, ◌∷◌, ◌++◌, ◌+◌, [], sym, ap, subst, refl, ℕ, Some, None, is_some, List, Option}
 use Rattle.std.proofs.Common.{slice_get, slice_set, map, remove, true, false, cond, arith}
 use Rattle.std.specs.Option.{option_map, IsSome}
+use Rattle.std.proofs.Common.{length}
+use Rattle.parking_lot_core_model.specs.Buckets.{slot}
 use Rattle.parking_lot_core_model.specs.declared.place.Place.{Place}
 use Rattle.parking_lot_core_model.specs.declared.place.Place.TheVariants.{Running, Waiting, Held, Taken}
 use Rattle.parking_lot_core_model.specs.declared.place.Section.{Section}
@@ -8,7 +10,7 @@ use Rattle.parking_lot_core_model.specs.declared.place.Phase.TheVariants as phas
 use Rattle.parking_lot_core_model.specs.declared.place.Waiter.{Waiter}
 use Rattle.parking_lot_core_model.specs.Lists.{lists_of, updated}
 use Rattle.parking_lot_core_model.specs.Places.{place_at, told, may_join, held, moved_to, changed}
-use Rattle.parking_lot_core_model.specs.Machine.{Parts, machine, moved, moved_first}
+use Rattle.parking_lot_core_model.specs.Machine.{Parts, machine, moved, moved_first, open_at}
 use Rattle.parking_lot_core_model.proofs.Closing.{Owed, nobody_taken, moved_parts, first_moves, first_stays}
 use Rattle.parking_lot_core_model.proofs.lot.Lot.move_first.Goals as goal
 
@@ -18,18 +20,22 @@ invariant_of-self g c =
     let p : Parts = record {
       number = l.number;
       max_threads = l.max_threads;
+      paired = l.paired;
       sleeps = l.sleeps;
       waiting = l.waiting.entries.items;
       owned = l.owned.entries.items;
       places = l.places.items;
-      section = l.section;
+      by_bucket = l.buckets.by_bucket.items;
+      by_thread = l.buckets.by_thread.items;
     }
     in
     let h = c.in-Some.ensures in
     subst (λ (ps : List (Option Place)). Owed (record p { waiting = c.push.new.self.entries.items; places = ps })
     c.push.new.self) (sym c.relist.ensures)
     (moved_parts p l.waiting c.take.new.self c.args.from 0 c.in-Some.waiter c.self.invariant (sym h.item)
-    c.push.new.self c.args.to h.kept c.push.ensures.kept h.total c.push.ensures.total
+    c.push.new.self c.args.to
+    (λ s at. c.requires s (ap (λ v. open_at (machine v) c.args.from) (sym c.self.view_is) ∙ at)) h.kept
+    c.push.ensures.kept h.total c.push.ensures.total
     (c.push.ensures.room ∙ h.room))
 
 pub invariant_of-self-in_default : goal.invariant_of-self-in_default
@@ -38,11 +44,13 @@ invariant_of-self-in_default g c =
     let p : Parts = record {
       number = l.number;
       max_threads = l.max_threads;
+      paired = l.paired;
       sleeps = l.sleeps;
       waiting = l.waiting.entries.items;
       owned = l.owned.entries.items;
       places = l.places.items;
-      section = l.section;
+      by_bucket = l.buckets.by_bucket.items;
+      by_thread = l.buckets.by_thread.items;
     }
     in
     let h = c.in_default.ensures in
@@ -54,11 +62,13 @@ returns-in-Some g c =
     let p : Parts = record {
       number = l.number;
       max_threads = l.max_threads;
+      paired = l.paired;
       sleeps = l.sleeps;
       waiting = l.waiting.entries.items;
       owned = l.owned.entries.items;
       places = l.places.items;
-      section = l.section;
+      by_bucket = l.buckets.by_bucket.items;
+      by_thread = l.buckets.by_thread.items;
     }
     in
     let h = c.in-Some.ensures in
@@ -72,11 +82,13 @@ returns-in_default g c =
     let p : Parts = record {
       number = l.number;
       max_threads = l.max_threads;
+      paired = l.paired;
       sleeps = l.sleeps;
       waiting = l.waiting.entries.items;
       owned = l.owned.entries.items;
       places = l.places.items;
-      section = l.section;
+      by_bucket = l.buckets.by_bucket.items;
+      by_thread = l.buckets.by_thread.items;
     }
     in
     let h = c.in_default.ensures in

@@ -9,7 +9,7 @@ use Rattle.parking_lot_core_model.specs.Operations.{all_taken}
 use Rattle.parking_lot_core_model.proofs.Kept.{updated_at}
 use Rattle.parking_lot_core_model.proofs.Outcomes.{unless_done, free_section}
 use Rattle.parking_lot_core_model.proofs.Takings.{closed_taken, closed_moved}
-use Rattle.parking_lot_core_model.specs.Machine.{moved}
+use Rattle.parking_lot_core_model.specs.Machine.{moved, open_at}
 use Rattle.parking_lot_core_model.specs.Operations.{woken_count, moved_count}
 use Rattle.parking_lot_core_model.proofs.Requeues.{counts_woken, counts_moved, take_woken, take_moved, drop_moved}
 use Rattle.parking_lot_core_model.proofs.Requeues.{moved_within, test_left}
@@ -64,8 +64,11 @@ move_all-requires g c =
     let rest : (machine c.take_all.new.self).queues from ≡ drop (length (woken_by op q)) q =
     ap (λ (x : Machine). x.queues from) c.take_all.ensures
     ∙ (updated_at m.queues from (drop c.woken_count-woken.result q) ∙ ap (λ n. drop n q) woken) in
-    subst (λ (n : ℕ). n ≤ length ((machine c.take_all.new.self).queues from)) (sym moving)
-    (subst (λ (ws : List Waiter). length (moved_by op q) ≤ length ws) (sym rest) (moved_within op q))
+    record {
+      within = subst (λ (n : ℕ). n ≤ length ((machine c.take_all.new.self).queues from)) (sym moving)
+          (subst (λ (ws : List Waiter). length (moved_by op q) ≤ length ws) (sym rest) (moved_within op q));
+      nobody = λ s at. c.requires.nobody s (ap (λ (x : Machine). open_at x from) (sym c.take_all.ensures) ∙ at);
+    }
 
 pub returns-clause-lists : goal.returns-clause-lists
 returns-clause-lists g c =

@@ -1,5 +1,7 @@
 use Rattle.std.proofs.Common.{◌≡◌, ◌∙◌, ◌+◌, sym, ap, subst, refl, ℕ, Some, None, Ok, is_some, not, List, Option}
 use Rattle.std.proofs.Common.{slice_set, true, false, cond, arith}
+use Rattle.std.proofs.Common.{length}
+use Rattle.parking_lot_core_model.specs.Buckets.{slot}
 use Rattle.parking_lot_core_model.specs.declared.parking.ParkResult.TheVariants.{TimedOut}
 use Rattle.parking_lot_core_model.specs.declared.place.Place.{Place}
 use Rattle.parking_lot_core_model.specs.declared.place.Place.TheVariants.{Running, Waiting, Held, Taken}
@@ -18,19 +20,21 @@ invariant_of-self g c =
     let p : Parts = record {
       number = l.number;
       max_threads = l.max_threads;
+      paired = l.paired;
       sleeps = l.sleeps;
       waiting = l.waiting.entries.items;
       owned = l.owned.entries.items;
       places = l.places.items;
-      section = l.section;
+      by_bucket = l.buckets.by_bucket.items;
+      by_thread = l.buckets.by_thread.items;
     }
     in
     let t = c.in-Some-Taken in
-    let at : place_at p.places c.args.thread ≡ Some (Taken t.token t.field-0-1 t.field-0-2) =
+    let at : place_at p.places c.args.thread ≡ Some (Taken t.token t.field-0-1 t.field-0-2 t.field-0-3) =
     ap (λ v. place_at v.places c.args.thread) c.self.view_is ∙ (sym t.ensures.place ∙ ap (λ x. Some x) t.field-0-is)
     in
     subst (λ (ps : List (Option Place)). Owed (record p { places = ps }) l.waiting) (sym c.put.ensures)
-    (placed_running p l.waiting c.args.thread t.token t.field-0-1 t.field-0-2 c.self.invariant at)
+    (placed_running p l.waiting c.args.thread t.token t.field-0-1 t.field-0-2 t.field-0-3 c.self.invariant at)
 
 pub returns-in-Some-Waiting : goal.returns-in-Some-Waiting
 returns-in-Some-Waiting g c =

@@ -1,15 +1,12 @@
-use Rattle.std.proofs.Common.{◌≡◌, ◌∙◌, ◌∷◌, ◌++◌, ◌+◌, [], sym, ap, subst, refl, ℕ, Some, None, is_some, List, Option}
-use Rattle.std.proofs.Common.{slice_get, slice_set, map, remove, true, false, cond, arith}
-use Rattle.std.specs.Option.{option_map, IsSome}
-use Rattle.parking_lot_core_model.specs.declared.place.Place.{Place}
-use Rattle.parking_lot_core_model.specs.declared.place.Place.TheVariants.{Running, Waiting, Held, Taken}
+use Rattle.std.proofs.Common.{◌≡◌, ◌∙◌, ◌≤◌, ◌<◌, ◌%◌, ◌&&◌, ℕ, List, Option, Some, None, Ok, true, false, cond, length, map, slice_set, sym, ap, refl}
+use Rattle.std.proofs.Common.{subst, arith, take, drop}
 use Rattle.parking_lot_core_model.specs.declared.place.Section.{Section}
-use Rattle.parking_lot_core_model.specs.declared.place.Phase.TheVariants as phase
-use Rattle.parking_lot_core_model.specs.declared.place.Waiter.{Waiter}
-use Rattle.parking_lot_core_model.specs.Lists.{lists_of, updated}
-use Rattle.parking_lot_core_model.specs.Places.{place_at, told, may_join, held, moved_to, changed}
-use Rattle.parking_lot_core_model.specs.Machine.{Parts, machine, moved, moved_first}
-use Rattle.parking_lot_core_model.proofs.Closing.{Owed, section_changed}
+use Rattle.std.specs.Option.{option_map}
+use Rattle.parking_lot_core_model.specs.Buckets.{slot}
+use Rattle.parking_lot_core_model.specs.Lists.{updated}
+use Rattle.parking_lot_core_model.specs.Machine.{Parts, Machine, machine, in_phase, open_at}
+use Rattle.parking_lot_core_model.proofs.Closing.{Owed, kept_so, same_kept}
+use Rattle.parking_lot_core_model.proofs.Sounds.{sound_section}
 use Rattle.parking_lot_core_model.proofs.lot.Lot.set_phase.Goals as goal
 
 pub invariant_of-self : goal.invariant_of-self
@@ -18,13 +15,43 @@ invariant_of-self g c =
     let p : Parts = record {
       number = l.number;
       max_threads = l.max_threads;
+      paired = l.paired;
       sleeps = l.sleeps;
       waiting = l.waiting.entries.items;
       owned = l.owned.entries.items;
       places = l.places.items;
-      section = l.section;
+      by_bucket = l.buckets.by_bucket.items;
+      by_thread = l.buckets.by_thread.items;
     }
     in
-    section_changed p l.waiting (λ s. record s { phase = c.args.phase }) c.come_to-self-inside.result c.self.invariant
-    c.come_to-self-inside.ensures (λ s. refl)
-    (λ s is may. c.requires s (ap (λ v. v.section) (sym c.self.view_is) ∙ is) may)
+    let f = λ (s : Section). record s { phase = c.args.phase } in
+    let b = c.args.key % length p.by_bucket in
+    let sections = c.put.ensures.sections
+    ∙ ap (updated (slot p.by_bucket) b) (c.come_to-section.ensures ∙ ap (option_map f) c.at.ensures) in
+    let seats : length p.by_thread ≤ length c.put.new.self.by_thread.items =
+    subst (λ (n : ℕ). length p.by_thread ≤ n) (sym c.put.ensures.seats) (omega arith) in
+    kept_so p l.waiting _ _ _ _ c.self.invariant.1 c.put.ensures.count sections c.put.ensures.keys seats
+    (sound_section (machine p) c.args.key f c.self.invariant.0 (λ s. refl) (λ s. refl)
+    (λ s is may. c.requires s (ap (λ v. open_at (machine v) c.args.key) (sym c.self.view_is) ∙ is) may))
+
+pub returns : goal.returns
+returns g c =
+    let l = c.self.inside in
+    let p : Parts = record {
+      number = l.number;
+      max_threads = l.max_threads;
+      paired = l.paired;
+      sleeps = l.sleeps;
+      waiting = l.waiting.entries.items;
+      owned = l.owned.entries.items;
+      places = l.places.items;
+      by_bucket = l.buckets.by_bucket.items;
+      by_thread = l.buckets.by_thread.items;
+    }
+    in
+    let f = λ (s : Section). record s { phase = c.args.phase } in
+    let b = c.args.key % length p.by_bucket in
+    let sections = c.put.ensures.sections
+    ∙ ap (updated (slot p.by_bucket) b) (c.come_to-section.ensures ∙ ap (option_map f) c.at.ensures) in
+    same_kept (machine p) _ _ _ _ _ c.put.ensures.count sections c.put.ensures.keys
+    ∙ ap (λ v. in_phase (machine v) c.args.key c.args.phase) c.self.view_is

@@ -3,6 +3,7 @@ use Rattle.std.specs.Option.{IsSome}
 use Rattle.std.proofs.lemmas.List.{drop_all}
 use Rattle.parking_lot_core_model.specs.declared.place.Section.{Section}
 use Rattle.parking_lot_core_model.specs.Machine.{Parts, Machine, machine}
+use Rattle.parking_lot_core_model.specs.Sound.{IsOpen}
 use Rattle.parking_lot_core_model.proofs.Sifting.{Sifted, sifted_none, sifted_all, sifted_end, sifted_takes}
 use Rattle.parking_lot_core_model.proofs.Sifting.{sifted_skips, sifted_stops}
 use Rattle.parking_lot_core_model.proofs.lot.Lot.sift.Goals as goal
@@ -55,3 +56,6 @@ returns g c =
     sifted_all (goal.F-step g) c.args.filter (machine c.args.self.now) c.args.key (machine c.loop-nth.self)
     c.loop-nth.unparked c.loop-nth.nth c.loop-nth.filter c.loop-nth.invariant.1
     (drop_all c.loop-nth.nth ((machine c.args.self.now).queues c.args.key) (omega arith))
+
+pub take_out-requires : goal.take_out-requires
+take_out-requires g c = subst (λ (m : Machine). IsOpen m c.args.key) (sym c.loop-nth.invariant.1.lists) c.requires.entered

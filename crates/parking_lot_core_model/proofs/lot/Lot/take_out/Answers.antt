@@ -1,6 +1,8 @@
 use Rattle.std.proofs.Common.{◌≡◌, ◌∙◌, ◌∷◌, ◌++◌, ◌+◌, [], sym, ap, subst, refl, ℕ, Some, None, is_some, List, Option}
 use Rattle.std.proofs.Common.{slice_get, slice_set, map, remove, true, false, cond, arith}
 use Rattle.std.specs.Option.{option_map, IsSome}
+use Rattle.std.proofs.Common.{length}
+use Rattle.parking_lot_core_model.specs.Buckets.{slot}
 use Rattle.parking_lot_core_model.specs.declared.place.Place.{Place}
 use Rattle.parking_lot_core_model.specs.declared.place.Place.TheVariants.{Running, Waiting, Held, Taken}
 use Rattle.parking_lot_core_model.specs.declared.place.Section.{Section}
@@ -9,6 +11,7 @@ use Rattle.parking_lot_core_model.specs.declared.place.Waiter.{Waiter}
 use Rattle.parking_lot_core_model.specs.Lists.{lists_of, updated, total}
 use Rattle.parking_lot_core_model.specs.Places.{place_at, told, may_join, held, moved_to, changed}
 use Rattle.parking_lot_core_model.specs.Machine.{Parts, machine, moved, moved_first}
+use Rattle.parking_lot_core_model.specs.Sound.{IsOpen}
 use Rattle.parking_lot_core_model.proofs.Closing.{Owed, nobody_taken, held_parts}
 use Rattle.parking_lot_core_model.proofs.lot.Lot.take_out.Goals as goal
 
@@ -18,11 +21,13 @@ invariant_of-self g c =
     let p : Parts = record {
       number = l.number;
       max_threads = l.max_threads;
+      paired = l.paired;
       sleeps = l.sleeps;
       waiting = l.waiting.entries.items;
       owned = l.owned.entries.items;
       places = l.places.items;
-      section = l.section;
+      by_bucket = l.buckets.by_bucket.items;
+      by_thread = l.buckets.by_thread.items;
     }
     in
     nobody_taken p l.waiting c.take.new.self c.args.key c.args.nth c.self.invariant
@@ -36,15 +41,17 @@ invariant_of-self-2 g c =
     let p : Parts = record {
       number = l.number;
       max_threads = l.max_threads;
+      paired = l.paired;
       sleeps = l.sleeps;
       waiting = l.waiting.entries.items;
       owned = l.owned.entries.items;
       places = l.places.items;
-      section = l.section;
+      by_bucket = l.buckets.by_bucket.items;
+      by_thread = l.buckets.by_thread.items;
     }
     in
     let h = c.in_ok-waiter.ensures in
     subst (λ (ps : List (Option Place)). Owed (record p { waiting = c.take.new.self.entries.items; places = ps })
     c.take.new.self) (sym c.hold.ensures)
     (held_parts p l.waiting c.take.new.self c.args.key c.args.nth c.in_ok-waiter.waiter c.self.invariant (sym h.item)
-    (subst (λ (v : Parts). IsSome v.section) (sym c.self.view_is) c.requires) h.kept h.total h.room)
+    (subst (λ (v : Parts). IsOpen (machine v) c.args.key) (sym c.self.view_is) c.requires) h.kept h.total h.room)

@@ -7,11 +7,14 @@ use Rattle.parking_lot_core_model.specs.Results.{unpark_result, chosen_by, passe
 use Rattle.parking_lot_core_model.specs.Machine.{Machine, machine, busy, opened, stored, closed, unparked, taken}
 use Rattle.parking_lot_core_model.specs.Operations.{all_taken}
 use Rattle.parking_lot_core_model.proofs.Kept.{updated_at}
-use Rattle.parking_lot_core_model.proofs.Outcomes.{unless_done, free_section, not_aborted}
+use Rattle.parking_lot_core_model.proofs.Outcomes.{unless_done, free_first, not_aborted}
 use Rattle.parking_lot_core_model.proofs.Takings.{closed_taken, closed_moved}
 use Rattle.std.specs.Bool.{MatchBool}
-use Rattle.parking_lot_core_model.specs.Machine.{requeued, moved}
+use Rattle.parking_lot_core_model.specs.Machine.{requeued, moved, either_busy}
 use Rattle.parking_lot_core_model.specs.Operations.{is_abort, Requeues, RequeuesBy}
+use Rattle.parking_lot_core_model.specs.Sound.{IsOpen}
+use Rattle.parking_lot_core_model.proofs.Entering.{none≢some}
+use Rattle.parking_lot_core_model.proofs.Sounds.{is_opened, is_nobodys}
 use Rattle.parking_lot_core_model.proofs.lot.Lot.unpark_requeue.Goals as goal
 
 pub returns : goal.returns
@@ -21,7 +24,7 @@ returns g c =
     let to = c.args.key_to in
     let q = m.queues from in
     let op = c.validate-op.result in
-    let free : busy m ≡ None = sym c.busy.ensures.fault ∙ c.in_default.is in
+    let free : either_busy from to m ≡ None = sym c.either_busy.ensures.fault ∙ c.in_default.is in
     let o = opened m None from in
     let token = c.callback-token.result in
     let woken = woken_by op q in
@@ -36,10 +39,10 @@ returns g c =
     (all_taken x from (woken_by op (x.queues from)) (drop (length (woken_by op (x.queues from))) (x.queues from)))
     from to (moved_by op (x.queues from)) (left_by op (x.queues from))) c.open.ensures in
     let done : machine c.finish.new.self ≡ requeued m op from to token = c.finish.ensures
-    ∙ (ap (λ (x : Machine). closed (stored x token) true) lists
-    ∙ closed_moved m from token (c.busy.ensures.quiet c.in_default.is) (free_section m free) to woken left
+    ∙ (ap (λ (x : Machine). closed (stored x from token) from true) lists
+    ∙ closed_moved m from token (c.either_busy.ensures.quiet c.in_default.is) (free_first m from to free) to woken left
     (moved_by op q) (left_by op q)) in
-    unless_done (busy m) (Ok c.requeue-result.result) m (machine c.finish.new.self) _ free (
+    unless_done (either_busy from to m) (Ok c.requeue-result.result) m (machine c.finish.new.self) _ free (
       op,
       c.validate-op.ensures,
       not_aborted (λ answer told. goal.C-post g c.args.callback op answer told) op m from to
@@ -51,3 +54,25 @@ returns g c =
             done,
           ),
     )
+
+pub open-requires : goal.open-requires
+open-requires g c =
+    let m = machine c.args.self.now in
+    record {
+      free = free_first m c.args.key_from c.args.key_to (sym c.either_busy.ensures.fault ∙ c.in_default.is);
+      runs = λ t e. absurd (none≢some e);
+      outside = λ t e. absurd (none≢some e);
+    }
+
+pub requeue-result-requires : goal.requeue-result-requires
+requeue-result-requires g c = record {
+  entered = is_opened (machine c.args.self.now) (machine c.open.new.self) None c.args.key_from c.open.ensures;
+  nobody = is_nobodys (machine c.args.self.now) (machine c.open.new.self) c.args.key_from c.open.ensures;
+}
+
+pub finish-requires : goal.finish-requires
+finish-requires g c =
+    let m = machine c.args.self.now in
+    let key = c.args.key_from in
+    subst (λ (x : Machine). IsOpen x key) (sym c.requeue-result.ensures.lists)
+    (is_opened m (machine c.open.new.self) None key c.open.ensures)

@@ -12,6 +12,7 @@ use Rattle.parking_lot_machine.specs.RowFits.{FitsTogether}
 use Rattle.parking_lot_machine.proofs.LateActs.{laws}
 use Rattle.parking_lot_machine.proofs.LateCalls.{may_return_there, sleeps_there}
 use Rattle.parking_lot_machine.proofs.Holding.{fits, held, low}
+use Rattle.parking_lot_machine.specs.Rows.{open_at}
 use Rattle.parking_lot_machine.proofs.row_machine.RowMachine.come_back.Goals as goal
 
 pub come_back-requires : goal.come_back-requires
@@ -20,7 +21,7 @@ come_back-requires g c =
       free = subst (λ k. return_fault (machine c.self.inside.lot) c.args.thread k ≡ None)
           (sym (c.key.ensures ∙ ap (key_of c.args.call) c.late_list.ensures))
           (may_return_there (machine c.self.inside.lot) c.args.thread (late_key c.args.call)
-          (ap (λ (m : Rows). (machine m.lot).section) c.self.view_is ∙ c.requires.free)
+          (ap (λ (m : Rows). open_at (state m) (late_key c.args.call)) c.self.view_is ∙ c.requires.free)
           (sleeps_there _ c.self.invariant.0 c.args.thread c.args.call
           (held c.args.thread c.args.call c.self.view_is c.requires.here) c.requires.late c.requires.listed));
     }

@@ -19,6 +19,11 @@ use Rattle.parking_lot_machine.proofs.LateActs.{laws}
 use Rattle.parking_lot_machine.proofs.LateCalls.{entry_there, may_return_taken, taken_there}
 use Rattle.parking_lot_machine.proofs.Holding.{fits, held, low}
 use Rattle.parking_lot_machine.proofs.Woken.{stands_for}
+use Rattle.parking_lot_machine.specs.Rows.{open_at}
+use Rattle.parking_lot_core_model.specs.declared.parking.UnparkToken.{UnparkToken}
+use Rattle.parking_lot_core_model.specs.declared.place.Sleep.{Sleep}
+use Rattle.parking_lot_core_model.specs.declared.place.Place.TheVariants.{Taken}
+use Rattle.parking_lot_core_model.specs.Places.{place_at}
 use Rattle.parking_lot_machine.proofs.row_machine.RowMachine.find.Goals as goal
 
 pub remove-requires : goal.remove-requires
@@ -38,13 +43,15 @@ pub find-requires : goal.find-requires
 find-requires g c =
     let x = taken_there _ c.self.invariant.0 c.args.thread c.args.call
     (held c.args.thread c.args.call c.self.view_is c.requires.here) c.args.by c.args.said c.requires.late
-    c.requires.off (ap (λ (m : Rows). (machine m.lot).section) c.self.view_is ∙ c.requires.free) in
+    c.requires.off (ap (λ (m : Rows). open_at (state m) (late_key c.args.call)) c.self.view_is ∙ c.requires.free) in
     record {
       free = subst (λ k. return_fault (machine c.self.inside.lot) c.args.thread k ≡ None)
           (sym (c.key.ensures ∙ ap (key_of c.args.call) c.late_list.ensures))
           (may_return_taken (machine c.self.inside.lot) c.args.thread (late_key c.args.call) x.0 x.1
-          (ap (λ (m : Rows). (machine m.lot).section) c.self.view_is ∙ c.requires.free) x.2);
-      off = (x.0, x.1, x.2);
+          (ap (λ (m : Rows). open_at (state m) (late_key c.args.call)) c.self.view_is ∙ c.requires.free) x.2);
+      off = subst (λ k. (token : UnparkToken) × (sleep : Sleep)
+          × (place_at (machine c.self.inside.lot).places c.args.thread ≡ Some (Taken token k sleep false)))
+          (sym (c.key.ensures ∙ ap (key_of c.args.call) c.late_list.ensures)) (x.0, x.1, x.2);
     }
 
 pub index_mut-requires : goal.index_mut-requires
@@ -59,7 +66,7 @@ returns g c =
     λ s ws next m. with_lot (with_call (record s { wakes = ws }) t next) m in
     let leaves : Machine → _ → Machine =
     λ m k. stored (in_phase (record (lot.returned m t k) { places = slice_set m.places t (Some Running) })
-    Phase.Ended) (sign false) in
+    k Phase.Ended) k (sign false) in
     let left : List Wakeup = remove s.wakes (position_or_len (is_for t) s.wakes) in
     ap (λ (m : Rows). done (state m) c.remove.new.self.items c.found.result (machine c.find.new.lot)) c.self.view_is
     ∙ ap (λ ws. done s ws c.found.result (machine c.find.new.lot))

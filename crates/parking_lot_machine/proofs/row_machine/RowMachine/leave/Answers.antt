@@ -8,7 +8,9 @@ use Rattle.parking_lot_machine.specs.RowActs.{with_call, with_lot}
 use Rattle.parking_lot_machine.specs.RowFits.{FitsTogether}
 use Rattle.parking_lot_machine.proofs.Acting.{laws}
 use Rattle.parking_lot_machine.proofs.Holding.{fits, held, low}
-use Rattle.parking_lot_machine.proofs.LotCalls.{lot_never_refuses}
+use Rattle.parking_lot_machine.proofs.LotCalls.{leaves_in, lot_never_refuses}
+use Rattle.parking_lot_machine.specs.RowActs.{key_in}
+use Rattle.std.proofs.Common.{ℕ}
 use Rattle.parking_lot_machine.proofs.row_machine.RowMachine.leave.Goals as goal
 
 -- src/acts.rt:184:9
@@ -29,10 +31,14 @@ pub returns : goal.returns
 returns g c =
     let done : State → Call → Machine → State = λ s next lot. with_lot (with_call s c.args.thread next) lot in
     let s : State = state c.args.self.now in
+    let key : ℕ = key_in c.args.call in
+    let in_it = leaves_in _ c.args.thread c.args.call c.self.invariant.0.lots
+    (held c.args.thread c.args.call c.self.view_is c.requires.here) c.requires.asked in
     ap (λ (m : Rows). done (state m) c.told.result (machine c.leave.new.lot)) c.self.view_is
     ∙ ap (done s c.told.result)
-    (c.leave.ensures.closed ∙ ap (λ (m : Rows). closed (machine m.lot) false) c.self.view_is)
-    ∙ ap (λ next. done s next (closed s.lot false)) c.told.ensures
+    (c.leave.ensures.closed in_it.0 in_it.1 ∙ ap (λ (k : ℕ). closed (machine c.self.inside.lot) k false) in_it.2
+    ∙ ap (λ (m : Rows). closed (machine m.lot) key false) c.self.view_is)
+    ∙ ap (λ next. done s next (closed s.lot key false)) c.told.ensures
 
 -- src/acts.rt:170:5
 pub invariant_of-self : goal.invariant_of-self

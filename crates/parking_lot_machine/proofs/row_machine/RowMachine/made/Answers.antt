@@ -18,17 +18,17 @@ invariant_of-result g c =
       wakes = c.in_ok-with_capacity.field-0.items;
       lot = c.in_ok-lot_of.field-0;
     }) in
-    let is : now ≡ at_rest c.args.threads c.args.kinds.items = search rules in
+    let is : now ≡ at_rest c.args.paired c.args.threads c.args.kinds.items = search rules in
     let locks : length c.args.kinds.items ≤ 2 ^ 20 = c.requires.locks in
     let threads : length c.in_ok-vec-3.field-0.items ≤ vec_capacity c.in_ok-with_capacity.field-0 =
     omega (
       arith,
       ap (λ (x : State). length x.calls) is,
-      threads_at_rest c.args.threads c.args.kinds.items,
+      threads_at_rest c.args.paired c.args.threads c.args.kinds.items,
       c.in_ok-with_capacity.ensures.capacity,
     ) in (
       subst FitsTogether (sym is)
-          (rest_fits c.args.threads c.args.kinds.items
+          (rest_fits c.args.paired c.args.threads c.args.kinds.items
           (subst lot.Sound c.in_ok-lot_of.ensures.made c.in_ok-lot_of.ensures.sound) c.requires.few locks),
       threads,
     )

@@ -18,6 +18,8 @@ use Rattle.parking_lot_machine_calls.specs.Stances.{sign}
 use Rattle.parking_lot_machine.proofs.LateActs.{laws}
 use Rattle.parking_lot_machine.proofs.LateCalls.{may_quit, stands_there}
 use Rattle.parking_lot_machine.proofs.Holding.{fits, held, low}
+use Rattle.parking_lot_core_model.specs.Machine as lot
+use Rattle.parking_lot_core_model.specs.declared.place.Section.{Section}
 use Rattle.parking_lot_machine.proofs.row_machine.RowMachine.quit.Goals as goal
 
 pub quit-left-requires : goal.quit-left-requires
@@ -25,11 +27,13 @@ quit-left-requires g c =
     let at = stands_there _ c.self.invariant.0 c.args.thread c.args.call
     (held c.args.thread c.args.call c.self.view_is c.requires.here) c.requires.late in
     record {
-      there = may_quit (machine c.self.inside.lot) c.args.thread (late_key c.args.call) at.0 at.1 at.2 at.3 at.4;
+      there = may_quit (machine c.self.inside.lot) c.args.thread (late_key c.args.call) at.0 at.1 at.2 at.4 at.5;
       waits = subst (λ k. (sleep : Sleep)
           × (place_at (machine c.self.inside.lot).places c.args.thread ≡ Some (Waiting k sleep)))
-          (sym (c.key-key.ensures ∙ ap (key_of c.args.call) c.late_list.ensures)) (at.4.0, at.4.1);
-      inside = (at.0, at.1, at.2);
+          (sym (c.key-key.ensures ∙ ap (key_of c.args.call) c.late_list.ensures)) (at.5.0, at.5.1);
+      inside = subst (λ k. (o : Section) × ((machine c.self.inside.lot).inside c.args.thread ≡ Some k)
+          × (lot.open_at (machine c.self.inside.lot) k ≡ Some o) × (o.key ≡ k))
+          (sym (c.key-key.ensures ∙ ap (key_of c.args.call) c.late_list.ensures)) (at.0, at.1, at.2, at.3);
     }
 
 pub index_mut-requires : goal.index_mut-requires
@@ -40,8 +44,8 @@ pub returns : goal.returns
 returns g c =
     let s : State = state c.args.self.now in
     let done : State → Call → Machine → State = λ s next m. with_lot (with_call s c.args.thread next) m in
-    let out : Machine → _ → Machine = λ m k. in_phase (given_up m c.args.thread k) phase.Ended in
-    let left : Machine → _ → Bool → Bool → Machine = λ m k b p. cond (b || p) (stored (out m k) (sign false)) (out m k)
+    let out : Machine → _ → Machine = λ m k. in_phase (given_up m c.args.thread k) k phase.Ended in
+    let left : Machine → _ → Bool → Bool → Machine = λ m k b p. cond (b || p) (stored (out m k) k (sign false)) (out m k)
     in
     let p : Bool = is_pending c.args.call.core in
     let is_key = c.key-key.ensures ∙ ap (key_of c.args.call) c.late_list.ensures in

@@ -1,9 +1,12 @@
 use Rattle.parking_lot_machine.proofs.Calling.{room_settled}
-use Rattle.std.proofs.Common.{ℕ, List, map, slice_set, Option, Some, sym, ap, ◌∙◌, subst, arith}
+use Rattle.std.proofs.Common.{false, ℕ, List, map, slice_set, Option, Some, sym, ap, ◌∙◌, subst, arith}
 use Rattle.std.specs.Option.{option_map}
 use Rattle.parking_lot_core_model.specs.declared.parking.UnparkToken.{UnparkToken}
 use Rattle.parking_lot_core_model.specs.Machine.{Machine, stored, machine}
 use Rattle.parking_lot_core_model.specs.Sound.{Sound}
+use Rattle.parking_lot_protocol.specs.declared.act.ActResult.TheVariants as seen
+use Rattle.parking_lot_protocol.specs.declared.act.Act.TheVariants as act
+use Rattle.parking_lot_protocol.specs.declared.act.SectionAct.TheVariants as section
 use Rattle.parking_lot_protocol.specs.Acts.{change_of}
 use Rattle.parking_lot_protocol.specs.declared.act.WordChange.{WordChange}
 use Rattle.parking_lot_machine_calls.specs.declared.open_call.Call.{Call}
@@ -15,7 +18,9 @@ use Rattle.parking_lot_machine_calls.specs.CallActs.{settled, told_of}
 use Rattle.parking_lot_machine.specs.RowFits.{FitsTogether}
 use Rattle.parking_lot_machine.proofs.TellActs.{laws}
 use Rattle.parking_lot_machine.proofs.Holding.{fits, held, low, word_low}
-use Rattle.parking_lot_machine.proofs.LotCalls.{lot_never_refuses}
+use Rattle.parking_lot_machine.proofs.LotCalls.{inside_key, lot_never_refuses}
+use Rattle.parking_lot_machine.specs.RowActs.{key_in}
+use Rattle.parking_lot_machine_calls.proofs.Stancing.{leads_by}
 use Rattle.parking_lot_machine.proofs.row_machine.RowMachine.store.Goals as goal
 
 -- src/acts.rt:175:9
@@ -53,16 +58,23 @@ returns g c =
     let next : Call = c.told-next.result in
     let token : UnparkToken = c.wake_token-token.result in
     let word : ℕ = change_of c.args.change (word_at s c.args.call.lock) in
+    let key : ℕ = key_in c.args.call in
+    let l = leads_by c.args.call.core (act.Section (section.Store c.requires.asked.0 c.requires.asked.1)) 0
+    (seen.Stored false) c.requires.asked.2 tt in
+    let in_it = inside_key _ c.args.thread c.args.call l.0 _ c.self.invariant.0.lots
+    (held c.args.thread c.args.call c.self.view_is c.requires.here) l.1 in
     ap (λ (m : Rows). done (state m) c.settle.new.calls.items c.of.result lot) c.self.view_is
     ∙ ap (λ calls. done s calls c.of.result lot)
     (c.settle.ensures ∙ ap (λ (m : Rows). all m.calls next c.by.result) c.self.view_is
     ∙ ap (all s.calls next) c.by.ensures)
     ∙ ap (done s (all s.calls next (told_of token)) c.of.result)
-    (c.store.ensures.stored ∙ ap (λ (m : Rows). stored (machine m.lot) token) c.self.view_is)
-    ∙ ap (λ w. done s (all s.calls next (told_of token)) w (stored s.lot token))
+    (c.store.ensures.stored in_it.0 in_it.1
+    ∙ ap (λ (k : ℕ). stored (machine c.self.inside.lot) k token) in_it.2
+    ∙ ap (λ (m : Rows). stored (machine m.lot) key token) c.self.view_is)
+    ∙ ap (λ w. done s (all s.calls next (told_of token)) w (stored s.lot key token))
     (c.of.ensures ∙ ap (change_of c.args.change) c.word-word.ensures)
-    ∙ ap (λ said. done s (all s.calls next (told_of said)) word (stored s.lot said)) c.wake_token-token.ensures
-    ∙ ap (λ (d : Call). done s (all s.calls d (told_of (core_tells d.core))) word (stored s.lot (core_tells d.core)))
+    ∙ ap (λ said. done s (all s.calls next (told_of said)) word (stored s.lot key said)) c.wake_token-token.ensures
+    ∙ ap (λ (d : Call). done s (all s.calls d (told_of (core_tells d.core))) word (stored s.lot key (core_tells d.core)))
     c.told-next.ensures
 
 -- src/acts.rt:168:5

@@ -38,6 +38,7 @@ rouse-token-requires g c =
     record {
       told = (
         due.2,
+        due.3.key,
         due.3.sleep,
         ap (λ (e : Wakeup). place_at c.self.inside.lot.places e.thread) same
             ∙ due.3.place,
@@ -83,7 +84,7 @@ returns g c =
     let same = is_first s.wakes t c.first_by-at.result due.0 c.remove-wakeup.result at c.remove-wakeup.ensures.value
     due.3.first in
     let v : c.remove-wakeup.result.thread ≡ due.0.thread = ap (λ (e : Wakeup). e.thread) same in
-    let token = c.rouse-token.ensures.token due.2 due.3.sleep (ap (place_at s.lot.places) v ∙ due.3.place) in
+    let token = c.rouse-token.ensures.token due.2 due.3.key due.3.sleep (ap (place_at s.lot.places) v ∙ due.3.place) in
     let sleeper = c.call_in-sleeper.ensures
     ∙ ap (λ calls. option_and_then (λ x. x) (slice_get calls c.remove-wakeup.result.thread)) c.deref-2.ensures.value
     ∙ ap (call_at s) v ∙ due.3.there in

@@ -1,0 +1,272 @@
+//! Buckets of keys: how many there are, what a growth keeps, and what an open section keeps out.
+
+use crate::script::{Answer, BUSY, Call, Line, WRONG, follow, follow_of, outcome};
+use parking_lot_core::{DEFAULT_PARK_TOKEN, Lot, LotFault, RequeueOp, ThreadStatus, UnparkToken};
+use refusing_heap::{Case, Heap, Refusal, RefusingHeap, Said, Seen, make_in_turn};
+use std::test::Fail;
+
+const WAITS: Answer = Answer::Ended(None);
+
+const IS: Answer = Answer::Is(true);
+
+const INSIDE: Answer = Answer::Stands(Some(ThreadStatus::InSection));
+
+const FULL: Answer = Answer::Refused(LotFault::TooManyThreads);
+
+/// Registers so many threads, retires some of them, and answers how many buckets there are.
+fn buckets_of(lot: &mut Lot, threads: usize, retired: usize) -> Result<usize, LotFault> {
+    for _thread in 0..threads {
+        lot.register()?;
+    }
+    for thread in 0..retired {
+        lot.retire(thread)?;
+    }
+    Ok(lot.buckets())
+}
+
+#[test]
+fn threads_have_buckets(rt: HostRuntime) -> Result<(), Fail> {
+    for (threads, retired, buckets) in [
+        (0, 0, 16),
+        (1, 0, 16),
+        (5, 0, 16),
+        (6, 0, 32),
+        (6, 5, 32),
+        (256, 0, 1024),
+    ] {
+        let count = buckets_of(&mut Lot::new(rt.alloc(), 256, 7)?, threads, retired)?;
+        assert!(rt; count == buckets, "{threads} threads: {count} buckets");
+    }
+    Ok(())
+}
+
+#[test]
+fn two_numbers_are_of_one_thread(rt: HostRuntime) -> Result<(), Fail> {
+    for (numbers, buckets) in [(10, 16), (11, 32), (12, 32), (512, 1024)] {
+        let count = buckets_of(&mut Lot::new_wide(rt.alloc(), 512, 7)?, numbers, 0)?;
+        assert!(rt; count == buckets, "{numbers} numbers: {count} buckets");
+    }
+    Ok(())
+}
+
+/// Threads 0 and 1 wait under key 3, and thread 2 under key 19, which is of the same bucket out of 16.
+const ONE_BUCKET: [Line; 3] = [
+    (Call::Park(0, 3), WAITS),
+    (Call::Park(1, 3), WAITS),
+    (Call::Park(2, 19), WAITS),
+];
+
+#[test]
+fn lists_stay_as_buckets_grow(rt: HostRuntime) -> Result<(), Fail> {
+    let script = [
+        (Call::Buckets, Answer::Number(16)),
+        (Call::Register, Answer::Number(5)),
+        (Call::Buckets, Answer::Number(32)),
+        (Call::IsQueue(3, &[0, 1]), IS),
+        (Call::IsQueue(19, &[2]), IS),
+        (Call::UnparkOne(3, 1), Answer::Unparked(outcome(1, 0, true))),
+        (Call::IsQueue(3, &[1]), IS),
+        (Call::UnparkAll(19, 1), Answer::Number(1)),
+        (Call::Enter(3, 3), Answer::Done),
+        (Call::Enter(4, 19), Answer::Done),
+        (Call::Enter(5, 35), BUSY),
+    ];
+    follow(&rt, 5, &ONE_BUCKET, &script)
+}
+
+#[test]
+fn a_section_keeps_others_out_of_its_bucket(rt: HostRuntime) -> Result<(), Fail> {
+    let script = [
+        (Call::Enter(3, 3), Answer::Done),
+        (Call::Enter(4, 19), BUSY),
+        (Call::Park(4, 19), BUSY),
+        (Call::UnparkOne(19, 1), BUSY),
+        (Call::UnparkAll(19, 1), BUSY),
+        (Call::UnparkFilter(19, 1), BUSY),
+        (Call::ComeBack(2, 19), BUSY),
+        (Call::Enter(4, 4), Answer::Done),
+        (Call::Status(3), INSIDE),
+        (Call::Status(4), INSIDE),
+        (Call::TakeNext(3), Answer::Taken(Some(0))),
+        (Call::Append(4, false), Answer::Done),
+        (Call::Store(3, 1), Answer::Done),
+        (Call::Leave(3), Answer::Done),
+        (Call::UnparkAll(19, 1), Answer::Number(1)),
+        (Call::UnparkAll(4, 1), BUSY),
+        (Call::Leave(4), Answer::Done),
+        (Call::UnparkAll(4, 1), Answer::Number(1)),
+        (Call::IsQueue(3, &[1]), IS),
+    ];
+    follow(&rt, 5, &ONE_BUCKET, &script)
+}
+
+#[test]
+fn buckets_grow_in_no_section(rt: HostRuntime) -> Result<(), Fail> {
+    let script = [
+        (Call::Enter(3, 4), Answer::Done),
+        (Call::Register, Answer::Number(4)),
+        (Call::Register, BUSY),
+        (Call::Status(5), Answer::Stands(None)),
+        (Call::Buckets, Answer::Number(16)),
+        (Call::Leave(3), Answer::Done),
+        (Call::Register, Answer::Number(5)),
+        (Call::Buckets, Answer::Number(32)),
+        (Call::Enter(3, 4), Answer::Done),
+        (Call::Register, Answer::Number(6)),
+        (Call::Register, Answer::Number(7)),
+        (Call::Register, FULL),
+    ];
+    follow(&rt, 4, &ONE_BUCKET, &script)
+}
+
+#[test]
+fn too_many_threads_is_told_first(rt: HostRuntime) -> Result<(), Fail> {
+    let script = [
+        (Call::Enter(3, 4), Answer::Done),
+        (Call::Register, FULL),
+        (Call::Leave(3), Answer::Done),
+        (Call::Register, FULL),
+    ];
+    follow_of(&rt, 5, 5, &ONE_BUCKET, &script)
+}
+
+#[test]
+fn a_requeue_enters_two_buckets(rt: HostRuntime) -> Result<(), Fail> {
+    let all = RequeueOp::RequeueAll;
+    let moved = Answer::Unparked(outcome(0, 2, false));
+    let script = [
+        (Call::Enter(3, 4), Answer::Done),
+        (Call::Requeue(3, 4, all), BUSY),
+        (Call::Requeue(3, 20, all), BUSY),
+        (Call::Requeue(20, 3, all), BUSY),
+        (Call::RequeueCounting(3, 20, all), BUSY),
+        (Call::IsQueue(3, &[0, 1]), IS),
+        (Call::Requeue(3, 19, all), moved),
+        (Call::IsQueue(3, &[]), IS),
+        (Call::IsQueue(19, &[2, 0, 1]), IS),
+    ];
+    follow(&rt, 5, &ONE_BUCKET, &script)
+}
+
+#[test]
+fn a_taken_thread_comes_back_by_the_bucket_of_its_list(rt: HostRuntime) -> Result<(), Fail> {
+    let moved = Answer::Unparked(outcome(0, 1, false));
+    let before = [
+        (Call::ParkTimed(1, 5), WAITS),
+        (Call::Requeue(5, 3, RequeueOp::RequeueOne), moved),
+        (Call::Enter(0, 3), Answer::Done),
+        (Call::TakeMarked(0), Answer::Taken(Some(1))),
+        (Call::Store(0, 4), Answer::Done),
+        (Call::Leave(0), Answer::Done),
+        (Call::Deadline(1), Answer::Done),
+    ];
+    let script = [
+        (Call::ComeBack(1, 5), WRONG),
+        (Call::ComeBack(1, 19), WRONG),
+        (Call::Enter(2, 19), Answer::Done),
+        (Call::ComeBack(1, 3), BUSY),
+        (Call::Resume(1), BUSY),
+        (Call::Leave(2), Answer::Done),
+        (Call::Enter(2, 5), Answer::Done),
+        (Call::ComeBack(1, 3), Answer::Done),
+        (Call::Enter(0, 19), BUSY),
+        (Call::Quit(1), Answer::Left(Some(UnparkToken(4)))),
+        (Call::Leave(1), Answer::Done),
+    ];
+    follow(&rt, 3, &before, &script)
+}
+
+/// The thread that stands there in a key's list.
+fn at(lot: &Lot<&Heap>, key: usize, nth: usize) -> Option<usize> {
+    Some(lot.waiter(key, nth)?.thread)
+}
+
+/// Whether both lists of `ONE_BUCKET` stand, and there are so many buckets.
+fn stands(lot: &Lot<&Heap>, buckets: usize) -> bool {
+    let first = at(lot, 3, 0) == Some(0) && at(lot, 3, 1) == Some(1) && lot.count(3) == 2;
+    let other = at(lot, 19, 0) == Some(2) && lot.count(19) == 1;
+    first && other && lot.buckets() == buckets
+}
+
+/// Registers so many threads, of which the first stand as in `ONE_BUCKET`.
+fn fill(lot: &mut Lot<&Heap>, threads: usize) -> Option<()> {
+    for _thread in 0..threads {
+        lot.register().ok()?;
+    }
+    for (thread, key) in [(0, 3), (1, 3), (2, 19)] {
+        lot.park(thread, key, || true, DEFAULT_PARK_TOKEN, false)
+            .ok()?;
+    }
+    Some(())
+}
+
+/// A registration behind so many, which makes these buckets of those.
+#[derive(Clone, Copy)]
+struct Next(usize, usize, usize);
+
+impl Next {
+    /// Registers the next. Where it is refused it has changed nothing, and it is registered then.
+    fn register(self, heap: &Heap, lot: &mut Lot<&Heap>) -> Option<Seen> {
+        let Next(threads, fewer, more) = self;
+        fill(lot, threads)?;
+        let before = heap.asked();
+        let said = lot.register();
+        let behind = heap.asked();
+        let is_done = said == Ok(threads);
+        let is_short = said == Err(LotFault::NoMemory) && lot.status(threads).is_none();
+        let is_kept = stands(lot, if is_done { more } else { fewer });
+        let again = is_done || lot.register() == Ok(threads);
+        let fits = Said::of(is_done, is_short).fits(heap);
+        Seen::of(
+            before,
+            behind,
+            fits && is_kept && again && stands(lot, more),
+        )
+    }
+}
+
+impl<R: Drop> Case<R> for Next {
+    fn run(self, _rt: R, heap: &Heap) -> Option<Seen> {
+        match Lot::new(heap, 40, 7) {
+            Ok(mut lot) => self.register(heap, &mut lot),
+            Err(_) => None,
+        }
+    }
+}
+
+#[test]
+fn a_refused_growth_changes_nothing(rt: HostRuntime) {
+    for (next, growths) in [
+        (Next(5, 16, 32), 1),
+        (Next(8, 32, 32), 3),
+        (Next(10, 32, 64), 1),
+        (Next(16, 64, 64), 3),
+    ] {
+        let refused = make_in_turn(rt, rt.alloc(), next).unwrap_or(0);
+        let threads = next.0;
+        assert!(rt; refused == growths, "behind {threads}: {refused} growths");
+    }
+}
+
+/// Whether the sixth thread is refused as `Busy` while a section is open, with no growth asked for, and behind it for
+/// want of memory.
+fn is_told_last(heap: &Heap, lot: &mut Lot<&Heap>) -> Option<bool> {
+    fill(lot, 5)?;
+    lot.enter(3, 4).ok()?;
+    let inside = lot.register() == Err(LotFault::Busy) && heap.refused() == 0;
+    lot.leave(3).ok()?;
+    Some(inside && lot.register() == Err(LotFault::NoMemory) && stands(lot, 16))
+}
+
+/// How many growths five threads ask for.
+const FIVE_ASK: u64 = 7;
+
+#[test]
+fn want_of_memory_is_told_last(rt: HostRuntime) -> Result<(), Fail> {
+    let heap = RefusingHeap::new(rt.alloc(), Refusal::Onwards(FIVE_ASK + 1));
+    let mut lot = Lot::new(&heap, 40, 7)?;
+    let told = is_told_last(&heap, &mut lot);
+    let asked = heap.asked();
+    assert!(rt; told == Some(true), "{asked} growths");
+    Ok(())
+}
