@@ -1,10 +1,9 @@
 -- What a lot's fields owe as they change.
 use Rattle.std.proofs.Common.{◌≡◌, ℕ, ◌+◌, ◌<◌, ◌≤◌, Bool, true, false, List, [], Option, Some, None, slice_set, refl, sym}
-use Rattle.std.proofs.Common.{ap, ◌∙◌, subst, arith, is_some, cond, ◌∷◌, ◌++◌, ◌%◌, ◌^◌, map, remove, slice_get, length}
-use Rattle.std.proofs.Common.{position, eq-eqb, eqb-true, ◌==◌}
+use Rattle.std.proofs.Common.{ap, ◌∙◌, subst, arith, is_some, cond, ◌∷◌, ◌++◌, ◌%◌, ◌^◌, remove, slice_get, length}
+use Rattle.std.proofs.Common.{position, eq-eqb, eqb-true, ◌==◌, count_by}
 use Rattle.std.proofs.lemmas.Bool.{false≢true}
 use Rattle.std.specs.Option.{option_map, option_map_or}
-use Rattle.parking_lot_core_model.specs.declared.lists.Lists.{Lists}
 use Rattle.parking_lot_core_model.specs.declared.parking.UnparkToken.{UnparkToken}
 use Rattle.parking_lot_core_model.specs.declared.parking.ParkToken.{ParkToken}
 use Rattle.parking_lot_core_model.specs.declared.place.Section.{Section}
@@ -20,22 +19,23 @@ use Rattle.parking_lot_core_model.specs.Places.{place_at, is_waiting, is_held, i
 use Rattle.parking_lot_core_model.specs.Places.{status_of, may_return}
 use Rattle.parking_lot_core_model.specs.Places.{may_join, told, held, moved_to, changed}
 use Rattle.parking_lot_core_model.specs.Machine.{Parts, Machine, machine, status_at, runs, is_in, token_of}
-use Rattle.parking_lot_core_model.specs.Machine.{retire_fault, return_fault, joined, moved, moved_first, is_thread, opened}
+use Rattle.parking_lot_core_model.specs.Machine.{retire_fault, return_fault, joined, moved, moved_first, is_thread}
 use Rattle.parking_lot_core_model.specs.Machine.{closed, open_at}
-use Rattle.parking_lot_core_model.specs.Lists.{lists_of, updated, without_first, total, room}
+use Rattle.parking_lot_core_model.specs.Lists.{lists_of, updated, without_first}
+use Rattle.parking_lot_core_model.specs.Chains.{WaiterLists, total, room}
 use Rattle.parking_lot_core_model.specs.Buckets.{slot}
 use Rattle.std.specs.List.{position_or_len}
 use Rattle.std.proofs.lemmas.Option.{slice_get_within}
 use Rattle.parking_lot_core_model.specs.Sound.{Sound, Room, IsOpen, times_at}
-use Rattle.parking_lot_core_model.proofs.Entering.{some≢none, IsOutside}
+use Rattle.parking_lot_core_model.proofs.Entering.{some≢none}
 use Rattle.parking_lot_core_model.proofs.Sounds.{sound_place, sound_owned, sound_retired}
 use Rattle.parking_lot_core_model.proofs.Sounds.{sound_closed, sound_joined, sound_left, sound_relisted, waiter_place}
 use Rattle.parking_lot_core_model.proofs.Sounds.{waits_outside, sound_returned, returned_as}
 use Rattle.parking_lot_core_model.proofs.Outcomes.{entering}
-use Rattle.parking_lot_core_model.proofs.Kept.{updated_past}
-use Rattle.parking_lot_core_model.proofs.Rooms.{room_next, seated, waits}
+use Rattle.parking_lot_core_model.proofs.Kept.{updated_past, updated_at, updated_other, by_eqb, eqb_false_symm}
+use Rattle.parking_lot_core_model.proofs.Rooms.{room_next, seated, waits, noded, all_noded}
 use Rattle.parking_lot_core_model.proofs.Numbers.{flag, first_passes, position_passes, count_by-map_same}
-use Rattle.parking_lot_core_model.proofs.Numbers.{slice_get_none}
+use Rattle.parking_lot_core_model.proofs.Numbers.{slice_get_none, count_by-remove}
 use Rattle.std.proofs.lemmas.List.{length-map}
 
 -- the machine with its buckets kept so
@@ -52,7 +52,7 @@ abbrev pub back_in : ℕ → ℕ → Section
 back_in t key = record { thread = Some t; key = key; phase = phase.Joined; token = record { 0 = 0 } }
 
 -- what is owed of all fields
-abbrev pub Owed : {A : Type 0} → Parts → Lists Waiter A → Type 0
+abbrev pub Owed : Parts → WaiterLists → Type 0
 Owed parts waiting = Sound (machine parts) × Room waiting parts.places parts.max_threads (length parts.by_thread)
 
 waiting≢running : {key : ℕ} {s : Sleep} → Waiting key s ≡ Running → ⊥
@@ -100,7 +100,7 @@ pub unrefused : (m : Machine) (t : ℕ) (b : Bool) → runs (status_at m t) ≡ 
 unrefused m t true e free = running m t e
 unrefused m t false e free = absurd (some≢none free)
 
-module _ {A : Type 0} (p : Parts) (w : Lists Waiter A) where
+module _ (p : Parts) (w : WaiterLists) where
   -- a thread's deadline comes, or it is woken, or it runs again after it was taken
   pub placed : (t : ℕ) (old new : Place) → Owed p w → place_at p.places t ≡ Some old
       → ((k : ℕ) → waits_at k new ≡ waits_at k old) → is_waiting new ≡ is_waiting old
@@ -164,7 +164,7 @@ module _ {A : Type 0} (p : Parts) (w : Lists Waiter A) where
       )
 
 -- a section that comes on, and one that closes
-module _ {A : Type 0} (p : Parts) (w : Lists Waiter A) where
+module _ (p : Parts) (w : WaiterLists) where
   -- buckets that are kept so, where it is known what they hold
   pub kept_so : (bs : List (Option Section)) (ts : List (Option ℕ)) (ss : ℕ → Option Section) (is : ℕ → Option ℕ)
       → Room w p.places p.max_threads (length p.by_thread) → length bs ≡ length p.by_bucket → slot bs ≡ ss
@@ -244,16 +244,16 @@ module _ {A : Type 0} (p : Parts) (w : Lists Waiter A) where
       told_waiting key token woken (Some (Taken t at s b)) = refl
 
   -- a thread joins a list
-  pub joined_parts : (v : Lists Waiter A) (t key : ℕ) (token : ParkToken) (timed : Bool) → Owed p w
+  pub joined_parts : (v : WaiterLists) (t key : ℕ) (token : ParkToken) (timed : Bool) → Owed p w
       → place_at p.places t ≡ Some Running → ((k : ℕ) → slot p.by_thread t ≡ Some k → k ≡ key)
       → ((b : ℕ) (s : Section) → slot p.by_bucket b ≡ Some s → s.thread ≡ Some t → may_join s.phase ≡ false)
-      → lists_of v.entries.items ≡ updated (lists_of p.waiting) key
+      → lists_of v.entries ≡ updated (lists_of p.waiting) key
       (lists_of p.waiting key ++ record { thread = t; token = token } ∷ []) → total v ≡ total w + 1
       → room v ≡ room w
       → let mark = (p.sleeps + 1) % 2 ^ 64 in
       Owed (record p {
         sleeps = mark;
-        waiting = v.entries.items;
+        waiting = v.entries;
         places = slice_set p.places t (Some (Waiting key (record { mark = mark; timed = timed; late = false })));
       }) v
   joined_parts v t key token timed h at near outside kept more same =
@@ -264,10 +264,10 @@ module _ {A : Type 0} (p : Parts) (w : Lists Waiter A) where
       )
 
   -- nobody is taken where the list has ended
-  pub nobody_taken : (v : Lists Waiter A) (key nth : ℕ) → Owed p w → None ≡ slice_get (lists_of p.waiting key) nth
-      → lists_of v.entries.items ≡ updated (lists_of p.waiting) key (remove (lists_of p.waiting key) nth)
+  pub nobody_taken : (v : WaiterLists) (key nth : ℕ) → Owed p w → None ≡ slice_get (lists_of p.waiting key) nth
+      → lists_of v.entries ≡ updated (lists_of p.waiting) key (remove (lists_of p.waiting key) nth)
       → total w ≡ total v + 0 → room v ≡ room w
-      → Owed (record p { waiting = v.entries.items }) v
+      → Owed (record p { waiting = v.entries }) v
   nobody_taken v key nth h none kept count same =
       let past : length (lists_of p.waiting key) ≤ nth = slice_get_none (lists_of p.waiting key) nth (sym none) in
       let r = h.1.waits in
@@ -283,7 +283,7 @@ module _ {A : Type 0} (p : Parts) (w : Lists Waiter A) where
         },
       )
 
-  module _ (v : Lists Waiter A) (key nth : ℕ) (x : Waiter) (h : Owed p w)
+  module _ (v : WaiterLists) (key nth : ℕ) (x : Waiter) (h : Owed p w)
       (at : slice_get (lists_of p.waiting key) nth ≡ Some x) where
     stands : (f : Place → Place) → let sleep = (waiter_place (machine p) key nth x h.0 at).0 in
         slice_set p.places x.thread (Some (f (Waiting key sleep))) ≡ changed f p.places x.thread
@@ -291,12 +291,12 @@ module _ {A : Type 0} (p : Parts) (w : Lists Waiter A) where
         (sym (waiter_place (machine p) key nth x h.0 at).1)
 
     -- a waiter is taken out and held
-    pub held_parts : IsOpen (machine p) key → lists_of v.entries.items ≡ updated (lists_of p.waiting) key
+    pub held_parts : IsOpen (machine p) key → lists_of v.entries ≡ updated (lists_of p.waiting) key
         (remove (lists_of p.waiting key) nth) → total w ≡ total v + 1 → room v ≡ room w
-        → Owed (record p { waiting = v.entries.items; places = changed (held key) p.places x.thread }) v
+        → Owed (record p { waiting = v.entries; places = changed (held key) p.places x.thread }) v
     held_parts open_so kept count same =
         let s = waiter_place (machine p) key nth x h.0 at in
-        subst (λ (ps : List (Option Place)). Owed (record p { waiting = v.entries.items; places = ps }) v)
+        subst (λ (ps : List (Option Place)). Owed (record p { waiting = v.entries; places = ps }) v)
         (stands (held key)) (
           subst (λ (qs : ℕ → List Waiter). Sound
               (record (machine p) { queues = qs; places = slice_set p.places x.thread (Some (Held key s.0)) })) (sym kept)
@@ -306,18 +306,49 @@ module _ {A : Type 0} (p : Parts) (w : Lists Waiter A) where
               (omega arith),
         )
 
+    -- it stands in no list then, and has a node
+    pub apart_left : lists_of v.entries ≡ updated (lists_of p.waiting) key (remove (lists_of p.waiting key) nth)
+        → (k : ℕ) → count_by (is_thread x.thread) (lists_of v.entries k) ≡ 0
+    apart_left kept k =
+        let f = lists_of p.waiting in
+        let its = is_thread x.thread in
+        let s = waiter_place (machine p) key nth x h.0 at in
+        let times : (j : ℕ) → count_by its (f j) ≡ times_at j (Some (Waiting key s.0)) =
+        λ j. h.0.waits x.thread j ∙ ap (times_at j) s.1 in
+        ap (λ (qs : ℕ → List Waiter). count_by its (qs k)) kept
+        ∙ by_eqb k key (count_by its (updated f key (remove (f key) nth) k) ≡ 0)
+        (λ same.
+        let a = count_by-remove its (f key) nth x at in
+        let b : flag (its x) ≡ 1 = ap flag (eq-eqb x.thread x.thread refl) in
+        let c : count_by its (f key) ≡ 1 = times key ∙ ap flag (eq-eqb key key refl) in
+        ap (λ j. count_by its (updated f key (remove (f key) nth) j)) same
+        ∙ (ap (count_by its) (updated_at f key (remove (f key) nth)) ∙ omega (arith, a, b, c)))
+        (λ other. ap (count_by its) (updated_other f key (remove (f key) nth) k other)
+        ∙ (times k ∙ ap flag (eqb_false_symm k key other)))
+
+    pub noded_left : room v ≡ room w → x.thread < room v
+    noded_left same =
+        let s = waiter_place (machine p) key nth x h.0 at in
+        let n = noded w p.places p.max_threads (length p.by_thread) x.thread (Waiting key s.0) h.1 s.1 in
+        omega (arith, n, same)
+
+    pub room_behind : total w ≡ total v + 1 → room v ≡ room w → total v < room v
+    room_behind count same =
+        let n = all_noded w p.places p.max_threads (length p.by_thread) h.1 in
+        omega (arith, n, count, same)
+
     -- it moves to another list
-    pub moved_parts : (u : Lists Waiter A) (to : ℕ)
+    pub moved_parts : (u : WaiterLists) (to : ℕ)
         → ((s : Section) → open_at (machine p) key ≡ Some s → s.thread ≡ None)
-        → lists_of v.entries.items ≡ updated (lists_of p.waiting) key (remove (lists_of p.waiting key) nth)
-        → lists_of u.entries.items ≡ updated (lists_of v.entries.items) to (lists_of v.entries.items to ++ x ∷ [])
+        → lists_of v.entries ≡ updated (lists_of p.waiting) key (remove (lists_of p.waiting key) nth)
+        → lists_of u.entries ≡ updated (lists_of v.entries) to (lists_of v.entries to ++ x ∷ [])
         → total w ≡ total v + 1 → total u ≡ total v + 1 → room u ≡ room w
-        → Owed (record p { waiting = u.entries.items; places = changed (moved_to to) p.places x.thread }) u
+        → Owed (record p { waiting = u.entries; places = changed (moved_to to) p.places x.thread }) u
     moved_parts u to nobody kept pushed count more same =
         let s = waiter_place (machine p) key nth x h.0 at in
         let outside : slot p.by_thread x.thread ≡ None = waits_outside (machine p) x.thread key (Waiting key s.0) h.0 s.1
         (λ k is. sym (eqb-true key k is)) nobody in
-        subst (λ (ps : List (Option Place)). Owed (record p { waiting = u.entries.items; places = ps }) u)
+        subst (λ (ps : List (Option Place)). Owed (record p { waiting = u.entries; places = ps }) u)
         (stands (moved_to to)) (
           subst (λ (qs : ℕ → List Waiter). Sound
               (record (machine p) { queues = qs; places = slice_set p.places x.thread (Some (Waiting to s.0)) }))
@@ -348,7 +379,7 @@ first_stays m from to qs none taken =
     ∙ sym (ap (λ o. option_map_or (λ x. moved m from to (x ∷ []) (remove (m.queues from) 0)) o m) (sym none))
 
 -- a waiting thread takes itself out of its list, and runs
-module _ {A : Type 0} (p : Parts) (w v : Lists Waiter A) (t key : ℕ) (s : Sleep) (h : Owed p w)
+module _ (p : Parts) (w v : WaiterLists) (t key : ℕ) (s : Sleep) (h : Owed p w)
     (at : place_at p.places t ≡ Some (Waiting key s)) where
   abbrev queue : List Waiter
   queue = lists_of p.waiting key
@@ -363,9 +394,9 @@ module _ {A : Type 0} (p : Parts) (w v : Lists Waiter A) (t key : ℕ) (s : Slee
       (position_passes (is_thread t) queue
       (slice_get_within queue (position_or_len (is_thread t) queue) itself.0 itself.1))
 
-  pub gave_up : lists_of v.entries.items ≡ updated (lists_of p.waiting) key (without_first (is_thread t) queue)
+  pub gave_up : lists_of v.entries ≡ updated (lists_of p.waiting) key (without_first (is_thread t) queue)
       → total w ≡ total v + 1 → room v ≡ room w
-      → Owed (record p { waiting = v.entries.items; places = slice_set p.places t (Some Running) }) v
+      → Owed (record p { waiting = v.entries; places = slice_set p.places t (Some Running) }) v
   gave_up kept count same =
       let same_thread : itself.0.thread ≡ t = eqb-true itself.0.thread t itself.2 in (
         subst (λ (qs : ℕ → List Waiter). Sound

@@ -1,14 +1,13 @@
 -- A map from numbers to lists, kept as one list of entries.
 use Rattle.std.proofs.Common.{◌≡◌, ℕ, ◌+◌, ◌<◌, ◌≤◌, Bool, true, false, cond, ◌==◌, List, [], ◌∷◌, ◌++◌, length, map}
 use Rattle.std.proofs.Common.{filter, take, drop, Some, None, slice_get, refl, sym, ap, ◌∙◌, subst, eqb-true, eq-eqb}
-use Rattle.std.proofs.Common.{arith, get_or, position, remove, append_assoc, length-append, suc, not, add-one, nat_lt}
+use Rattle.std.proofs.Common.{arith, get_or, position, remove, suc, not, add-one, nat_lt}
 use Rattle.std.specs.List.{position_or_len}
 use mathlib.Core.Path.{fun_ext}
-use Rattle.std.proofs.Math.Seq.{drop-append_seam, take-append_seam, take-suc, split_at}
+use Rattle.std.proofs.Math.Seq.{take-suc, split_at}
 use Rattle.std.proofs.lemmas.Bool.{eqb-false, ne_eqb, cond-true, cond-false}
 use Rattle.std.proofs.lemmas.List.{map-append, append-nil, length-map, length_push, take_all, drop_all}
 use Rattle.std.proofs.lemmas.List.Elements.{filter-append}
-use Rattle.std.proofs.lemmas.List.Edits.{remove-append_right}
 use Rattle.std.proofs.lemmas.Option.{slice_get_within, get_or_from_slice_get, slice_get-get_or}
 use Rattle.parking_lot_core_model.specs.declared.lists.Entry.{Entry}
 use Rattle.parking_lot_core_model.specs.Lists.{updated, is_under, lists_of, IsNth}
@@ -61,6 +60,18 @@ module _ {X : Type 0} where
   pub remove_past : (xs : List X) (n : ℕ) → length xs ≤ n → remove xs n ≡ xs
   remove_past xs n h = ap (λ ys. ys ++ drop (suc n) xs) (take_all n xs h)
       ∙ (ap (λ ys. xs ++ ys) (drop_all (suc n) xs (omega arith)) ∙ append-nil xs)
+
+module _ {X Y : Type 0} (f : X → Y) (p : Y → Bool) where
+  -- where the first stands that passes, by what is read of each
+  position_or_len-map : (xs : List X) → position_or_len (λ x. p (f x)) xs ≡ position_or_len p (map f xs)
+  position_or_len-map [] = refl
+  position_or_len-map (x ∷ xs) = ap (λ n. cond (not (p (f x))) (1 + n) 0) (position_or_len-map xs)
+
+  pub position-map : (xs : List X) → position (λ x. p (f x)) xs ≡ position p (map f xs)
+  position-map xs =
+      ap (λ n. cond (nat_lt n (length xs)) (Some n) None) (position_or_len-map xs)
+      ∙ ap (λ n. cond (nat_lt (position_or_len p (map f xs)) n) (Some (position_or_len p (map f xs))) None)
+      (sym (length-map xs f))
 
 module _ {T : Type 0} where
   pub lists_of-append : (xs ys : List (Entry T)) (k : ℕ) → lists_of (xs ++ ys) k ≡ lists_of xs k ++ lists_of ys k
@@ -154,19 +165,6 @@ module _ {T : Type 0} where
       ∙ (ap (λ ys. lists_of (take i es) key ++ ys)
       (ap (λ x. lists_of (x ∷ []) key) at ∙ ap (map (λ x. x.item)) (cond-false (e.key == key) (e ∷ []) [] other))
       ∙ append-nil (lists_of (take i es) key))))
-
-  -- what stands in the list under a key, by its entries
-  position_or_len-items : (p : T → Bool) (es : List (Entry T)) → position_or_len (λ e. p e.item) es ≡ position_or_len p
-      (map (λ e. e.item) es)
-  position_or_len-items p [] = refl
-  position_or_len-items p (x ∷ xs) = ap (λ n. cond (not (p x.item)) (1 + n) 0) (position_or_len-items p xs)
-
-  pub position-items : (p : T → Bool) (es : List (Entry T)) → position (λ e. p e.item) es ≡ position p
-      (map (λ e. e.item) es)
-  position-items p es =
-      ap (λ n. cond (nat_lt n (length es)) (Some n) None) (position_or_len-items p es)
-      ∙ ap (λ n. cond (nat_lt (position_or_len p (map (λ e. e.item) es)) n)
-      (Some (position_or_len p (map (λ e. e.item) es))) None) (sym (length-map es (λ e. e.item)))
 
   -- an emptied list
   none_of : (key : ℕ) (es : List (Entry T)) → filter (is_under key) (filter (λ e. not (is_under key e)) es) ≡ []

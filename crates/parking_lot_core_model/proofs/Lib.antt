@@ -1,5 +1,10 @@
 pub mod Kept
 pub mod Numbers
+pub mod Links
+pub mod Linking
+pub mod Chained
+pub mod Changing
+pub mod Spreading
 pub mod Slots
 pub mod Entering
 pub mod Sounds

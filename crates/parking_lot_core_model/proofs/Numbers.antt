@@ -1,9 +1,9 @@
 -- Places by their numbers.
 use Rattle.std.proofs.Common.{◌≡◌, ℕ, ◌+◌, ◌<◌, ◌≤◌, Bool, true, false, cond, not, nat_lt, ◌==◌, List, [], ◌∷◌, length}
-use Rattle.std.proofs.Common.{map, take, drop, Option, Some, None, unwrap_or, slice_get, slice_set, position, is_some}
-use Rattle.std.proofs.Common.{refl, sym, ap, ◌∙◌, subst, arith, count_by, zero, suc, ◌++◌, add-zero, remove}
-use Rattle.std.specs.List.{position_or_len, prefix_len}
-use Rattle.std.proofs.lemmas.Bool.{cond-true, cond-false, ltb-true, ltb-false, both_ways, eqb-false, ne_eqb, lt-ltb}
+use Rattle.std.proofs.Common.{map, Some, None, unwrap_or, slice_get, slice_set, position, is_some}
+use Rattle.std.proofs.Common.{refl, sym, ap, ◌∙◌, arith, count_by, zero, suc, ◌++◌, add-zero, remove}
+use Rattle.std.specs.List.{position_or_len}
+use Rattle.std.proofs.lemmas.Bool.{cond-true, ltb-false, both_ways, eqb-false, ne_eqb, lt-ltb}
 use Rattle.std.proofs.lemmas.List.Sums.{sum_by-set, sum_by-cons, sum_by-append, count_by-le-length}
 use Rattle.std.proofs.lemmas.Option.{slice_get_within, get_or_from_slice_get, slice_get-get_or}
 use Rattle.std.proofs.lemmas.List.Quantifiers.{position-Some}
@@ -12,7 +12,7 @@ use Rattle.std.proofs.lemmas.List.Quantifiers.{position-Some}
 abbrev pub flag : Bool → ℕ
 flag b = cond b 1 0
 
-flag-le : (b : Bool) → flag b ≤ 1
+pub flag-le : (b : Bool) → flag b ≤ 1
 flag-le true = omega arith
 flag-le false = omega arith
 

@@ -1,27 +1,25 @@
 -- A number is given out.
-use Rattle.std.proofs.Common.{◌≡◌, ℕ, ◌+◌, ◌<◌, ◌≤◌, ◌==◌, Bool, true, false, cond, not, List, [], ◌∷◌, ◌++◌, length}
+use Rattle.std.proofs.Common.{◌≡◌, ℕ, ◌+◌, ◌<◌, ◌≤◌, ◌==◌, Bool, true, false, cond, List, [], ◌∷◌, ◌++◌, length}
 use Rattle.std.proofs.Common.{take, drop, Option, Some, None, is_none, slice_get, slice_set, refl, sym, ap, ◌∙◌, subst}
-use Rattle.std.proofs.Common.{arith, zero, suc, count_by, length-append, ◌&&◌, ◌*◌, nat_lt, max}
+use Rattle.std.proofs.Common.{arith, zero, suc, count_by, ◌&&◌, ◌*◌, nat_lt, max}
 use Rattle.std.specs.Option.{option_map_or, option_and_then}
-use Rattle.std.specs.List.{position_or_len}
 use Rattle.std.proofs.lemmas.Bool.{both_ways, false≢true, ne_eqb, eqb-false, ltb-true}
 use Rattle.std.proofs.lemmas.List.{set_split, take_all, drop_all, length_push}
 use Rattle.std.proofs.Math.ListN.{length-set}
 use Rattle.std.proofs.lemmas.Option.{slice_get-get_or}
-use Rattle.parking_lot_core_model.specs.declared.lists.Entry.{Entry}
-use Rattle.parking_lot_core_model.specs.declared.lists.Lists.{Lists}
 use Rattle.parking_lot_core_model.specs.declared.place.Place.{Place}
 use Rattle.parking_lot_core_model.specs.declared.place.Place.TheVariants.{Running}
 use Rattle.parking_lot_core_model.specs.declared.place.Waiter.{Waiter}
-use Rattle.parking_lot_core_model.specs.Lists.{total, room, lists_of}
+use Rattle.parking_lot_core_model.specs.Lists.{lists_of}
+use Rattle.parking_lot_core_model.specs.Chains.{WaiterLists, total, room}
 use Rattle.parking_lot_core_model.specs.Places.{place_at, is_held, is_near}
 use Rattle.parking_lot_core_model.specs.Machine.{Parts, Machine, machine, registered, free_number}
 use Rattle.parking_lot_core_model.specs.Machine.{register_fault, must_grow, buckets_wanted}
 use Rattle.parking_lot_core_model.specs.Buckets.{any_open, slot, threads_with}
 use Rattle.parking_lot_core_model.specs.declared.place.Section.{Section}
 use Rattle.parking_lot_core_model.specs.declared.fault.LotFault.TheVariants.{Busy, TooManyThreads}
-use Rattle.parking_lot_core_model.specs.Sound.{Sound, Room, times_at}
-use Rattle.parking_lot_core_model.proofs.Numbers.{flag, position_or_len-le, count_by-set, count_by-push}
+use Rattle.parking_lot_core_model.specs.Sound.{Sound, times_at}
+use Rattle.parking_lot_core_model.proofs.Numbers.{position_or_len-le, count_by-set, count_by-push}
 use Rattle.parking_lot_core_model.proofs.Kept.{by_eqb}
 use Rattle.parking_lot_core_model.proofs.Entering.{some≢none}
 use Rattle.parking_lot_core_model.proofs.Slots.{some_buckets, max_more, max_less}
@@ -127,7 +125,7 @@ grown_to b wanted = by (nat_lt b wanted) refl
     by true e = max_more b wanted e ∙ ap (λ t. cond t wanted b) (sym e)
     by false e = max_less b wanted e ∙ ap (λ t. cond t wanted b) (sym e)
 
-module _ {A : Type 0} (p : Parts) (w v : Lists Waiter A) (bs : List (Option Section)) (ts : List (Option ℕ))
+module _ (p : Parts) (w v : WaiterLists) (bs : List (Option Section)) (ts : List (Option ℕ))
     (h : Owed p w) (free : register_fault (machine p) ≡ None)
     (count : length bs ≡ max (length p.by_bucket) (buckets_wanted (machine p)))
     (sections : slot bs ≡ slot p.by_bucket) (inside : slot ts ≡ slot p.by_thread) where
@@ -192,10 +190,10 @@ module _ {A : Type 0} (p : Parts) (w v : Lists Waiter A) (bs : List (Option Sect
 
   -- one more number is given out
   pub past : length p.places ≤ free_number p.places
-      → lists_of v.entries.items ≡ lists_of p.waiting → total v ≡ total w → length p.places + 1 ≤ room v
+      → lists_of v.entries ≡ lists_of p.waiting → total v ≡ total w → length p.places + 1 ≤ room v
       → length p.places + 1 ≤ p.max_threads → length p.places + 1 ≤ length ts
       → Owed (record p {
-        waiting = v.entries.items;
+        waiting = v.entries;
         places = p.places ++ Some Running ∷ [];
         by_bucket = bs;
         by_thread = ts;
@@ -206,7 +204,7 @@ module _ {A : Type 0} (p : Parts) (w v : Lists Waiter A) (bs : List (Option Sect
       let l = length_push ps (Some Running) in
       let r = h.1.waits in (
         subst Sound
-            (sym (registered_as (lists_of v.entries.items) (ps ++ Some Running ∷ []) same (registered_past ps full)))
+            (sym (registered_as (lists_of v.entries) (ps ++ Some Running ∷ []) same (registered_past ps full)))
             sound_so,
         record {
           waits = omega arith;

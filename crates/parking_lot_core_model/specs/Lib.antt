@@ -1,5 +1,6 @@
 pub mod Faults
 pub mod Lists
+pub mod Chains
 pub mod Buckets
 pub mod Results
 pub mod Places

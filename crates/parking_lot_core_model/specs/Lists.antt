@@ -1,6 +1,6 @@
 -- A map from numbers to lists, kept as one list of entries.
-use Rattle.std.specs.Prelude.{◌≡◌, ℕ, Bool, ◌==◌, if◌then◌else◌, List, [], ◌∷◌, ◌++◌, length, map, filter, take, Some}
-use Rattle.std.specs.Prelude.{slice_get, vec_capacity, remove}
+use Rattle.std.specs.Prelude.{◌≡◌, ℕ, Bool, ◌==◌, if◌then◌else◌, List, length, map, filter, take, Some}
+use Rattle.std.specs.Prelude.{slice_get, remove}
 use Rattle.std.specs.List.{position_or_len}
 use Rattle.parking_lot_core_model.specs.declared.lists.Entry.{Entry}
 use Rattle.parking_lot_core_model.specs.declared.lists.Lists.{Lists}
@@ -24,13 +24,6 @@ lists_of entries key = map (λ e. e.item) (filter (is_under key) entries)
 -- the same of the code's map
 abbrev pub kept : {T A : Type 0} → Lists T A → ℕ → List T
 kept lists = lists_of lists.entries.items
-
--- how many items there are in all, and for how many there is room
-abbrev pub total : {T A : Type 0} → Lists T A → ℕ
-total lists = length lists.entries.items
-
-abbrev pub room : {T A : Type 0} → Lists T A → ℕ
-room lists = vec_capacity lists.entries
 
 -- at this index stands the key's entry with that many of its entries before it
 pub record IsNth {T : Type 0} (entries : List (Entry T)) (key nth at : ℕ) (item : T) : Type 0 where

@@ -1,13 +1,11 @@
 -- What is true of each lot.
-use Rattle.std.specs.Prelude.{◌≡◌, ℕ, ◌≤◌, ◌<◌, ◌*◌, ◌%◌, Bool, true, false, if◌then◌else◌, List, [], length, Option, Some, None}
+use Rattle.std.specs.Prelude.{◌≡◌, ℕ, ◌≤◌, ◌<◌, ◌%◌, true, false, if◌then◌else◌, List, [], length, Option, Some, None}
 use Rattle.std.specs.Prelude.{count_by}
 use Rattle.std.specs.Option.{option_map_or}
-use Rattle.parking_lot_core_model.specs.declared.lists.Lists.{Lists}
 use Rattle.parking_lot_core_model.specs.declared.place.Place.{Place}
 use Rattle.parking_lot_core_model.specs.declared.place.Place.TheVariants.{Running}
 use Rattle.parking_lot_core_model.specs.declared.place.Section.{Section}
-use Rattle.parking_lot_core_model.specs.declared.place.Waiter.{Waiter}
-use Rattle.parking_lot_core_model.specs.Lists.{total, room}
+use Rattle.parking_lot_core_model.specs.Chains.{WaiterLists, total, room}
 use Rattle.parking_lot_core_model.specs.Places.{place_at, waits_at, is_waiting, is_held, is_near, may_join}
 use Rattle.parking_lot_core_model.specs.Machine.{Machine, is_thread, bucket_of, open_at}
 
@@ -56,7 +54,7 @@ pub record IsInside (m : Machine) (thread : ℕ) (section : Section) : Type 0 wh
   pub runs : may_join section.phase ≡ true → place_at m.places thread ≡ Some Running
 
 -- there is room for each registered thread to wait, and to be in a section
-pub record Room {A : Type 0} (waiting : Lists Waiter A) (places : List (Option Place)) (max_threads seats : ℕ)
+pub record Room (waiting : WaiterLists) (places : List (Option Place)) (max_threads seats : ℕ)
     : Type 0 where
   pub waits : total waiting ≤ count_by (λ place. option_map_or is_waiting place false) places
   pub room : length places ≤ room waiting

@@ -7,6 +7,7 @@
 #![tactic(auto)]
 
 mod buckets;
+mod chains;
 mod fault;
 pub mod laws;
 mod lists;
@@ -17,7 +18,9 @@ mod place;
 mod places;
 mod returns;
 mod sections;
+mod spread;
 mod steps;
+mod waiters;
 
 pub use fault::{LotFault, SizeFault};
 pub use lot::Lot;

@@ -3,8 +3,7 @@
 //! Its contracts speak of the map alone, so that what it is made of can change.
 ghost use Rattle.std.specs.Prelude.{◌≡◌, ◌+◌, ◌<◌, ◌≤◌, ◌∷◌, ◌++◌, [], IfOk, OnOk, OnErr, MatchOption, ℕ, length, map};
 ghost use Rattle.std.specs.Prelude.{position, remove, slice_get, is_some, if◌then◌else◌, filter, not, ◌==◌};
-ghost use Rattle.std.specs.Prelude.{vec_capacity};
-ghost use Rattle.parking_lot_core_model.specs.Lists.{updated, without_first, kept, total, room, is_under, IsNth};
+ghost use Rattle.parking_lot_core_model.specs.Lists.{updated, without_first, kept, is_under, IsNth};
 
 use std::alloc::{AllocError, Allocator};
 
@@ -24,36 +23,11 @@ pub(crate) struct Lists<T, A: Allocator> {
 impl<T: Copy, A: Allocator> Lists<T, A> {
     /// No items.
     pub fn new(alloc: A) -> Self
-        ensures kept { kept result ≡ (λ (_ : ℕ). []) }
-        ensures total { total result ≡ 0 }
+        ensures { kept result ≡ (λ (_ : ℕ). []) }
     {
         Lists {
             entries: Vec::new(alloc),
         }
-    }
-
-    /// Makes room for `count` items in all.
-    pub fn reserve(&mut self, count: usize) -> Result<(), AllocError>
-        ensures kept { kept self.new ≡ kept self.old }
-        ensures total { total self.new ≡ total self.old }
-        ensures room { OnOk result (count ≤ room self.new) }
-        ensures grows { room self.old ≤ room self.new }
-    {
-        let len = self.entries.len();
-        if len < count {
-            self.entries.reserve(count - len)?;
-        }
-        Ok(())
-    }
-
-    /// Adds an item at the end of the key's list, where there is room.
-    pub fn push(&mut self, key: usize, item: T)
-        requires { total self.old < room self.old }
-        ensures kept { kept self.new ≡ updated (kept self.old) key (kept self.old key ++ item ∷ []) }
-        ensures total { total self.new ≡ total self.old + 1 }
-        ensures room { room self.new ≡ room self.old }
-    {
-        self.entries.push_reserved(Entry { key, item });
     }
 
     /// Adds an item at the end of the key's list, or changes nothing.
@@ -61,8 +35,7 @@ impl<T: Copy, A: Allocator> Lists<T, A> {
         ensures ok { OnOk result (kept self.new ≡ updated (kept self.old) key (kept self.old key ++ item ∷ [])) }
         ensures err { OnErr result (kept self.new ≡ kept self.old) }
     {
-        self.entries.reserve(1)?;
-        self.push(key, item);
+        self.entries.push(Entry { key, item })?;
         Ok(())
     }
 
@@ -84,35 +57,17 @@ impl<T: Copy, A: Allocator> Lists<T, A> {
     }
 
     /// Takes the `nth` item out of the key's list.
-    pub fn take(&mut self, key: usize, nth: usize) -> Option<T>
+    fn take(&mut self, key: usize, nth: usize) -> Option<T>
         ensures item { result ≡ slice_get (kept self.old key) nth }
         ensures kept { kept self.new ≡ updated (kept self.old) key (remove (kept self.old key) nth) }
-        ensures total { total self.old ≡ total self.new + (if is_some result then 1 else 0) }
-        ensures room { room self.new ≡ room self.old }
     {
         let at = self.find(key, nth)?;
         Some(self.entries.remove(at).item)
     }
 
-    /// The `nth` item of the key's list.
-    pub fn get(&self, key: usize, nth: usize) -> Option<T>
-        ensures { result ≡ slice_get (kept self.now key) nth }
-    {
-        let at = self.find(key, nth)?;
-        Some(self.entries[at].item)
-    }
-
-    /// How many items the key's list has.
-    pub fn count(&self, key: usize) -> usize
-        ensures { result ≡ length (kept self.now key) }
-    {
-        count_under(&self.entries, key)
-    }
-
     /// Empties the key's list.
     pub fn clear(&mut self, key: usize)
-        ensures kept { kept self.new ≡ updated (kept self.old) key [] }
-        ensures room { room self.new ≡ room self.old }
+        ensures { kept self.new ≡ updated (kept self.old) key [] }
     {
         drop_under(&mut self.entries, key);
     }
@@ -140,8 +95,6 @@ impl<T: Numbered, A: Allocator> Lists<T, A> {
         ensures kept { kept self.new ≡ updated (kept self.old) key
             (without_first (λ item. T.number_of item == number) (kept self.old key)) }
         ensures found { result ≡ is_some (position (λ item. T.number_of item == number) (kept self.old key)) }
-        ensures total { total self.old ≡ total self.new + (if result then 1 else 0) }
-        ensures room { room self.new ≡ room self.old }
     {
         match self.place_of(key, number) {
             Some(nth) => {
@@ -160,17 +113,9 @@ impl<T: Numbered, A: Allocator> Lists<T, A> {
     }
 }
 
-/// How many entries are under the key.
-fn count_under<T>(entries: &[Entry<T>], key: usize) -> usize
-    ensures { result ≡ length (filter (is_under key) entries.now) }
-{
-    entries.iter().filter(|entry| entry.key == key).count()
-}
-
 /// Lets go of the entries under the key.
 fn drop_under<T: Copy, A: Allocator>(entries: &mut Vec<Entry<T>, A>, key: usize)
-    ensures entries { entries.new.items ≡ filter (λ e. not (is_under key e)) entries.old.items }
-    ensures room { vec_capacity entries.new ≡ vec_capacity entries.old }
+    ensures { entries.new.items ≡ filter (λ e. not (is_under key e)) entries.old.items }
 {
     entries.retain(|entry| entry.key != key);
 }

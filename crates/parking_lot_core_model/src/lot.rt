@@ -14,8 +14,9 @@ use crate::buckets::{Buckets, buckets_for, threads_with};
 use crate::fault::{LotFault, SizeFault};
 use crate::lists::Lists;
 use crate::parking::{DEFAULT_UNPARK_TOKEN, UnparkToken};
-use crate::place::{Place, Section, ThreadStatus, Waiter};
+use crate::place::{Place, Section, ThreadStatus};
 use crate::places::{free_number, place_at, put};
+use crate::waiters::Waiters;
 use std::alloc::{Allocator, Global};
 use std::marker::Model;
 
@@ -52,7 +53,7 @@ pub struct Lot<A: Allocator = Global> {
     /// How many sleeps there were, modulo 2^64.
     pub(crate) sleeps: u64,
     /// The waiters, by key.
-    pub(crate) waiting: Lists<Waiter, A>,
+    pub(crate) waiting: Waiters<A>,
     /// The recorded resources, by thread.
     pub(crate) owned: Lists<usize, A>,
     /// Where each thread stands; `None` of a number that is free.
@@ -68,9 +69,9 @@ impl<A: Allocator> Model for Lot<A> {
 
     ghost Value = { Parts };
 
-    ghost view = { λ l. record { number = l.number; max_threads = l.max_threads; paired = l.paired; sleeps = l.sleeps; waiting = l.waiting.entries.items; owned = l.owned.entries.items; places = l.places.items; by_bucket = l.buckets.by_bucket.items; by_thread = l.buckets.by_thread.items } };
+    ghost view = { λ l. record { number = l.number; max_threads = l.max_threads; paired = l.paired; sleeps = l.sleeps; waiting = l.waiting.entries; owned = l.owned.entries.items; places = l.places.items; by_bucket = l.buckets.by_bucket.items; by_thread = l.buckets.by_thread.items } };
 
-    ghost invariant = { λ l. Sound (machine (record { number = l.number; max_threads = l.max_threads; paired = l.paired; sleeps = l.sleeps; waiting = l.waiting.entries.items; owned = l.owned.entries.items; places = l.places.items; by_bucket = l.buckets.by_bucket.items; by_thread = l.buckets.by_thread.items })) × Room l.waiting l.places.items l.max_threads (length l.buckets.by_thread.items) };
+    ghost invariant = { λ l. Sound (machine (record { number = l.number; max_threads = l.max_threads; paired = l.paired; sleeps = l.sleeps; waiting = l.waiting.entries; owned = l.owned.entries.items; places = l.places.items; by_bucket = l.buckets.by_bucket.items; by_thread = l.buckets.by_thread.items })) × Room l.waiting l.places.items l.max_threads (length l.buckets.by_thread.items) };
 }
 
 impl<A: Allocator> Lot<A> {
@@ -260,7 +261,7 @@ impl<A: Allocator> Lot<A> {
             return Ok(thread);
         }
         self.places.reserve(1)?;
-        self.waiting.reserve(thread + 1)?;
+        self.waiting.reserve(thread + 1, wanted)?;
         self.buckets.make_room(thread + 1, wanted)?;
         self.places.push_reserved(Some(Place::Running));
         Ok(thread)
@@ -367,7 +368,7 @@ impl<A: Allocator + Clone> Lot<A> {
             max_threads,
             paired,
             sleeps: 0,
-            waiting: Lists::new(alloc.clone()?),
+            waiting: Waiters::new(alloc.clone()?)?,
             owned: Lists::new(alloc.clone()?),
             buckets: Buckets::new(alloc.clone()?)?,
             places: Vec::new(alloc),

@@ -61,14 +61,6 @@ pub struct Waiter {
     pub token: ParkToken,
 }
 
-impl Numbered for Waiter {
-    ghost number_of = { λ waiter. waiter.thread };
-
-    fn number(&self) -> usize {
-        self.thread
-    }
-}
-
 impl Numbered for usize {
     ghost number_of = { λ key. key };
 

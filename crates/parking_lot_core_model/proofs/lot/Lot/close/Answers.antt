@@ -1,14 +1,12 @@
-use Rattle.std.proofs.Common.{◌≡◌, ◌∙◌, ◌≤◌, ◌<◌, ◌%◌, ◌&&◌, ℕ, List, Option, Some, None, Ok, true, false, cond, length, map, slice_set, sym, ap, refl}
-use Rattle.std.proofs.Common.{subst, arith, take, drop}
+use Rattle.std.proofs.Common.{◌≡◌, ◌∙◌, ◌≤◌, ◌<◌, ◌%◌, ℕ, List, Option, Some, length, map, sym, ap}
+use Rattle.std.proofs.Common.{subst, arith}
 use Rattle.parking_lot_core_model.specs.declared.place.Section.{Section}
 use Rattle.std.specs.Option.{option_map, option_and_then}
 use Rattle.parking_lot_core_model.specs.declared.place.Place.{Place}
 use Rattle.parking_lot_core_model.specs.Buckets.{slot}
-use Rattle.parking_lot_core_model.specs.Lists.{updated}
 use Rattle.parking_lot_core_model.specs.Places.{told}
-use Rattle.parking_lot_core_model.specs.Machine.{Parts, Machine, machine, let_out, closed, open_at, token_of, entered_by}
+use Rattle.parking_lot_core_model.specs.Machine.{Parts, machine, let_out, closed, token_of, entered_by}
 use Rattle.parking_lot_core_model.specs.Sound.{IsOpen}
-use Rattle.parking_lot_core_model.proofs.Entering.{same_some}
 use Rattle.parking_lot_core_model.proofs.Closing.{Owed, kept_so, same_kept, section_closed, has_seat}
 use Rattle.parking_lot_core_model.proofs.lot.Lot.close.Goals as goal
 
@@ -20,7 +18,7 @@ let_out-requires g c =
       max_threads = l.max_threads;
       paired = l.paired;
       sleeps = l.sleeps;
-      waiting = l.waiting.entries.items;
+      waiting = l.waiting.entries;
       owned = l.owned.entries.items;
       places = l.places.items;
       by_bucket = l.buckets.by_bucket.items;
@@ -44,7 +42,7 @@ invariant_of-self g c =
       max_threads = l.max_threads;
       paired = l.paired;
       sleeps = l.sleeps;
-      waiting = l.waiting.entries.items;
+      waiting = l.waiting.entries;
       owned = l.owned.entries.items;
       places = l.places.items;
       by_bucket = l.buckets.by_bucket.items;
@@ -83,7 +81,7 @@ returns g c =
       max_threads = l.max_threads;
       paired = l.paired;
       sleeps = l.sleeps;
-      waiting = l.waiting.entries.items;
+      waiting = l.waiting.entries;
       owned = l.owned.entries.items;
       places = l.places.items;
       by_bucket = l.buckets.by_bucket.items;

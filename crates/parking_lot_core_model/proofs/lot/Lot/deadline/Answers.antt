@@ -1,11 +1,7 @@
-use Rattle.std.proofs.Common.{◌≡◌, ◌∙◌, sym, ap, subst, refl, Some, None, List, Option, slice_set, true, false, cond}
-use Rattle.std.proofs.Common.{arith}
-use Rattle.std.proofs.Common.{length}
-use Rattle.parking_lot_core_model.specs.Buckets.{slot}
+use Rattle.std.proofs.Common.{◌≡◌, ◌∙◌, sym, ap, subst, Some, List, Option, slice_set}
 use Rattle.parking_lot_core_model.specs.declared.place.Place.{Place}
-use Rattle.parking_lot_core_model.specs.declared.place.Place.TheVariants.{Running, Waiting, Held, Taken}
-use Rattle.parking_lot_core_model.specs.Places.{place_at, late}
-use Rattle.parking_lot_core_model.specs.Machine.{Parts, machine}
+use Rattle.parking_lot_core_model.specs.Places.{place_at}
+use Rattle.parking_lot_core_model.specs.Machine.{Parts}
 use Rattle.parking_lot_core_model.proofs.Closing.{Owed, placed_late}
 use Rattle.parking_lot_core_model.proofs.lot.Lot.deadline.Goals as goal
 
@@ -17,7 +13,7 @@ invariant_of-self g c =
       max_threads = l.max_threads;
       paired = l.paired;
       sleeps = l.sleeps;
-      waiting = l.waiting.entries.items;
+      waiting = l.waiting.entries;
       owned = l.owned.entries.items;
       places = l.places.items;
       by_bucket = l.buckets.by_bucket.items;

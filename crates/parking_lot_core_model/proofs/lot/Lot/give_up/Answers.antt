@@ -1,16 +1,10 @@
-use Rattle.std.proofs.Common.{◌≡◌, ◌∙◌, ◌+◌, sym, ap, subst, refl, ℕ, Some, None, Ok, is_some, not, List, Option}
-use Rattle.std.proofs.Common.{slice_set, true, false, cond, arith}
-use Rattle.std.proofs.Common.{length}
-use Rattle.parking_lot_core_model.specs.Buckets.{slot}
-use Rattle.parking_lot_core_model.specs.declared.parking.ParkResult.TheVariants.{TimedOut}
+use Rattle.std.proofs.Common.{◌≡◌, ◌∙◌, ◌+◌, sym, ap, subst, Some, List, Option}
+use Rattle.std.proofs.Common.{true, cond}
 use Rattle.parking_lot_core_model.specs.declared.place.Place.{Place}
-use Rattle.parking_lot_core_model.specs.declared.place.Place.TheVariants.{Running, Waiting, Held, Taken}
-use Rattle.parking_lot_core_model.specs.Lists.{lists_of, total}
+use Rattle.parking_lot_core_model.specs.declared.place.Place.TheVariants.{Waiting}
+use Rattle.parking_lot_core_model.specs.Chains.{total}
 use Rattle.parking_lot_core_model.specs.Places.{place_at}
-use Rattle.parking_lot_core_model.specs.Results.{is_left}
-use Rattle.parking_lot_core_model.specs.Machine.{Parts, Machine, machine, given_up, resume_fault}
-use Rattle.parking_lot_core_model.specs.Operations.{ResumesFrom}
-use Rattle.parking_lot_core_model.proofs.Outcomes.{unless_done}
+use Rattle.parking_lot_core_model.specs.Machine.{Parts}
 use Rattle.parking_lot_core_model.proofs.Closing.{Owed, gave_up, found_itself}
 use Rattle.parking_lot_core_model.proofs.lot.Lot.give_up.Goals as goal
 
@@ -22,7 +16,7 @@ invariant_of-self g c =
       max_threads = l.max_threads;
       paired = l.paired;
       sleeps = l.sleeps;
-      waiting = l.waiting.entries.items;
+      waiting = l.waiting.entries;
       owned = l.owned.entries.items;
       places = l.places.items;
       by_bucket = l.buckets.by_bucket.items;
@@ -35,7 +29,7 @@ invariant_of-self g c =
     let found : c.take_number.result ≡ true = c.take_number.ensures.found ∙ found_itself p l.waiting v c.args.thread
     c.args.key c.requires.0 c.self.invariant at in
     let count : total l.waiting ≡ total v + 1 = c.take_number.ensures.total ∙ ap (λ b. total v + cond b 1 0) found in
-    subst (λ (ps : List (Option Place)). Owed (record p { waiting = v.entries.items; places = ps }) v)
+    subst (λ (ps : List (Option Place)). Owed (record p { waiting = v.entries; places = ps }) v)
     (sym c.put.ensures)
     (gave_up p l.waiting v c.args.thread c.args.key c.requires.0 c.self.invariant at c.take_number.ensures.kept count
     c.take_number.ensures.room)

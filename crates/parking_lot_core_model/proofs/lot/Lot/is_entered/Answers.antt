@@ -1,4 +1,4 @@
-use Rattle.std.proofs.Common.{◌≡◌, ◌∙◌, false, is_some, sym, ap}
+use Rattle.std.proofs.Common.{◌∙◌, false, is_some, sym, ap}
 use Rattle.std.specs.Option.{option_map_or}
 use Rattle.parking_lot_core_model.specs.Places.{place_at, is_held}
 use Rattle.parking_lot_core_model.specs.Machine.{Parts, machine, open_at}
@@ -14,7 +14,7 @@ returns-clause-quiet g c =
       max_threads = l.max_threads;
       paired = l.paired;
       sleeps = l.sleeps;
-      waiting = l.waiting.entries.items;
+      waiting = l.waiting.entries;
       owned = l.owned.entries.items;
       places = l.places.items;
       by_bucket = l.buckets.by_bucket.items;

@@ -1,12 +1,9 @@
-use Rattle.std.proofs.Common.{◌≡◌, ◌∙◌, ◌≤◌, ◌<◌, ◌%◌, ◌&&◌, ℕ, List, Option, Some, None, Ok, true, false, cond, length, map, slice_set, sym, ap, refl}
-use Rattle.std.proofs.Common.{subst, arith, take, drop}
-use Rattle.parking_lot_core_model.specs.declared.place.Section.{Section}
-use Rattle.parking_lot_core_model.specs.Buckets.{slot}
-use Rattle.parking_lot_core_model.specs.Lists.{updated}
+use Rattle.std.proofs.Common.{◌≡◌, ◌∙◌, ◌≤◌, ◌<◌, ℕ, Some, length, sym, ap}
+use Rattle.std.proofs.Common.{subst, arith}
 use Rattle.parking_lot_core_model.specs.Places.{place_at}
-use Rattle.parking_lot_core_model.specs.Machine.{Parts, Machine, machine, let_in, opened, open_at}
+use Rattle.parking_lot_core_model.specs.Machine.{Parts, machine, let_in, opened, open_at}
 use Rattle.parking_lot_core_model.specs.declared.place.Place.TheVariants.{Running}
-use Rattle.parking_lot_core_model.proofs.Closing.{Owed, kept_so, same_kept}
+use Rattle.parking_lot_core_model.proofs.Closing.{kept_so, same_kept}
 use Rattle.parking_lot_core_model.proofs.Sounds.{sound_opened}
 use Rattle.parking_lot_core_model.proofs.Rooms.{seated}
 use Rattle.parking_lot_core_model.proofs.lot.Lot.open.Goals as goal
@@ -19,7 +16,7 @@ let_in-requires g c =
       max_threads = l.max_threads;
       paired = l.paired;
       sleeps = l.sleeps;
-      waiting = l.waiting.entries.items;
+      waiting = l.waiting.entries;
       owned = l.owned.entries.items;
       places = l.places.items;
       by_bucket = l.buckets.by_bucket.items;
@@ -39,7 +36,7 @@ invariant_of-self g c =
       max_threads = l.max_threads;
       paired = l.paired;
       sleeps = l.sleeps;
-      waiting = l.waiting.entries.items;
+      waiting = l.waiting.entries;
       owned = l.owned.entries.items;
       places = l.places.items;
       by_bucket = l.buckets.by_bucket.items;
@@ -65,7 +62,7 @@ returns g c =
       max_threads = l.max_threads;
       paired = l.paired;
       sleeps = l.sleeps;
-      waiting = l.waiting.entries.items;
+      waiting = l.waiting.entries;
       owned = l.owned.entries.items;
       places = l.places.items;
       by_bucket = l.buckets.by_bucket.items;

@@ -18,7 +18,7 @@ invariant_of-self-then-thread-len g c =
       max_threads = l.max_threads;
       paired = l.paired;
       sleeps = l.sleeps;
-      waiting = l.waiting.entries.items;
+      waiting = l.waiting.entries;
       owned = l.owned.entries.items;
       places = l.places.items;
       by_bucket = l.buckets.by_bucket.items;
@@ -53,7 +53,7 @@ returns-then-thread-len-clause-ok g c =
       max_threads = l.max_threads;
       paired = l.paired;
       sleeps = l.sleeps;
-      waiting = l.waiting.entries.items;
+      waiting = l.waiting.entries;
       owned = l.owned.entries.items;
       places = l.places.items;
       by_bucket = l.buckets.by_bucket.items;
@@ -92,7 +92,7 @@ invariant_of-self-2 g c =
       max_threads = l.max_threads;
       paired = l.paired;
       sleeps = l.sleeps;
-      waiting = l.waiting.entries.items;
+      waiting = l.waiting.entries;
       owned = l.owned.entries.items;
       places = l.places.items;
       by_bucket = l.buckets.by_bucket.items;
@@ -116,7 +116,7 @@ invariant_of-self-2 g c =
     let b = c.in_ok-reserve-2.ensures in
     let pushed = c.push_reserved.ensures.items ∙ ap (λ ps. ps ++ Some Running ∷ []) c.reserve.ensures.items in
     subst (λ (ps : List (Option Place)). Owed
-    (record p { waiting = c.reserve-2.new.self.entries.items; places = ps; by_bucket = bs; by_thread = ts })
+    (record p { waiting = c.reserve-2.new.self.entries; places = ps; by_bucket = bs; by_thread = ts })
     c.reserve-2.new.self) (sym pushed)
     (past p l.waiting c.reserve-2.new.self bs ts c.self.invariant free count c.make_room-2.ensures.sections
     c.make_room-2.ensures.keys full b.kept b.total (omega (arith, n, b.room)) (omega (arith, low))
@@ -130,7 +130,7 @@ returns-clause-ok g c =
       max_threads = l.max_threads;
       paired = l.paired;
       sleeps = l.sleeps;
-      waiting = l.waiting.entries.items;
+      waiting = l.waiting.entries;
       owned = l.owned.entries.items;
       places = l.places.items;
       by_bucket = l.buckets.by_bucket.items;
@@ -156,14 +156,14 @@ returns-clause-ok g c =
       n ∙ ap (λ v. free_number v.places) c.self.view_is,
       subst (λ (v : Parts). c.free_number-thread.result < v.max_threads) c.self.view_is (omega (arith, n, low)),
       ap (λ (ps : List (Option Place)). record m {
-        queues = lists_of c.reserve-2.new.self.entries.items;
+        queues = lists_of c.reserve-2.new.self.entries;
         places = ps;
         buckets = length bs;
         sections = slot bs;
         inside = slot ts;
       }) pushed
           ∙ (registered_as p l.waiting c.reserve-2.new.self bs ts c.self.invariant free count
-          c.make_room-2.ensures.sections c.make_room-2.ensures.keys (lists_of c.reserve-2.new.self.entries.items)
+          c.make_room-2.ensures.sections c.make_room-2.ensures.keys (lists_of c.reserve-2.new.self.entries)
           (p.places ++ Some Running ∷ []) b.kept (registered_past p.places full)
           ∙ ap (λ v. registered (machine v)) c.self.view_is),
     )

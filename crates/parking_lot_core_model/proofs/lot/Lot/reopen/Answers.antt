@@ -1,11 +1,9 @@
-use Rattle.std.proofs.Common.{◌≡◌, ◌∙◌, ◌≤◌, ◌<◌, ◌%◌, ◌&&◌, ℕ, List, Option, Some, None, Ok, true, false, cond, length, map, slice_set, sym, ap, refl}
-use Rattle.std.proofs.Common.{subst, arith, take, drop}
-use Rattle.parking_lot_core_model.specs.declared.place.Section.{Section}
-use Rattle.parking_lot_core_model.specs.Buckets.{slot}
+use Rattle.std.proofs.Common.{◌∙◌, ◌≤◌, ◌<◌, ℕ, Option, Some, length, sym, ap}
+use Rattle.std.proofs.Common.{subst, arith}
 use Rattle.parking_lot_core_model.specs.Lists.{updated}
-use Rattle.parking_lot_core_model.specs.Machine.{Parts, Machine, machine, returned, return_fault}
+use Rattle.parking_lot_core_model.specs.Machine.{Parts, machine, returned, return_fault}
 use Rattle.parking_lot_core_model.proofs.Sounds.{returned_as}
-use Rattle.parking_lot_core_model.proofs.Closing.{Owed, kept_so, same_kept, section_back, may_return_seat}
+use Rattle.parking_lot_core_model.proofs.Closing.{kept_so, same_kept, section_back, may_return_seat}
 use Rattle.parking_lot_core_model.proofs.lot.Lot.reopen.Goals as goal
 
 pub seat-requires : goal.seat-requires
@@ -16,7 +14,7 @@ seat-requires g c =
       max_threads = l.max_threads;
       paired = l.paired;
       sleeps = l.sleeps;
-      waiting = l.waiting.entries.items;
+      waiting = l.waiting.entries;
       owned = l.owned.entries.items;
       places = l.places.items;
       by_bucket = l.buckets.by_bucket.items;
@@ -35,7 +33,7 @@ invariant_of-self g c =
       max_threads = l.max_threads;
       paired = l.paired;
       sleeps = l.sleeps;
-      waiting = l.waiting.entries.items;
+      waiting = l.waiting.entries;
       owned = l.owned.entries.items;
       places = l.places.items;
       by_bucket = l.buckets.by_bucket.items;
@@ -60,7 +58,7 @@ returns g c =
       max_threads = l.max_threads;
       paired = l.paired;
       sleeps = l.sleeps;
-      waiting = l.waiting.entries.items;
+      waiting = l.waiting.entries;
       owned = l.owned.entries.items;
       places = l.places.items;
       by_bucket = l.buckets.by_bucket.items;

@@ -1,11 +1,7 @@
-use Rattle.std.proofs.Common.{◌≡◌, ◌∙◌, ◌+◌, sym, ap, subst, refl, ℕ, Some, None, Ok, is_some, not, List, Option}
-use Rattle.std.proofs.Common.{slice_set, true, false, cond, arith}
-use Rattle.std.proofs.Common.{length}
-use Rattle.parking_lot_core_model.specs.Buckets.{slot}
+use Rattle.std.proofs.Common.{◌≡◌, ◌∙◌, sym, ap, subst, refl, Some, None, Ok, not, List, Option}
 use Rattle.parking_lot_core_model.specs.declared.parking.ParkResult.TheVariants.{TimedOut}
 use Rattle.parking_lot_core_model.specs.declared.place.Place.{Place}
-use Rattle.parking_lot_core_model.specs.declared.place.Place.TheVariants.{Running, Waiting, Held, Taken}
-use Rattle.parking_lot_core_model.specs.Lists.{lists_of, total}
+use Rattle.parking_lot_core_model.specs.declared.place.Place.TheVariants.{Waiting, Taken}
 use Rattle.parking_lot_core_model.specs.Places.{place_at}
 use Rattle.parking_lot_core_model.specs.Results.{is_left}
 use Rattle.parking_lot_core_model.specs.Machine.{Parts, Machine, machine, given_up, resume_fault}
@@ -22,7 +18,7 @@ invariant_of-self g c =
       max_threads = l.max_threads;
       paired = l.paired;
       sleeps = l.sleeps;
-      waiting = l.waiting.entries.items;
+      waiting = l.waiting.entries;
       owned = l.owned.entries.items;
       places = l.places.items;
       by_bucket = l.buckets.by_bucket.items;

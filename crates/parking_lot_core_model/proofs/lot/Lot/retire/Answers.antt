@@ -1,11 +1,5 @@
-use Rattle.std.proofs.Common.{◌≡◌, ◌∙◌, ◌∷◌, ◌++◌, [], sym, ap, subst, refl, Some, None, is_some, List, Option}
-use Rattle.std.proofs.Common.{slice_set, true, false, cond, arith}
-use Rattle.std.proofs.Common.{length}
-use Rattle.parking_lot_core_model.specs.Buckets.{slot}
+use Rattle.std.proofs.Common.{◌≡◌, ◌∙◌, sym, ap, subst, None, List, Option}
 use Rattle.parking_lot_core_model.specs.declared.place.Place.{Place}
-use Rattle.parking_lot_core_model.specs.declared.place.Place.TheVariants.{Running, Waiting, Held, Taken}
-use Rattle.parking_lot_core_model.specs.Lists.{lists_of, updated}
-use Rattle.parking_lot_core_model.specs.Places.{place_at}
 use Rattle.parking_lot_core_model.specs.Machine.{Parts, machine, retire_fault}
 use Rattle.parking_lot_core_model.proofs.Closing.{Owed, gone}
 use Rattle.parking_lot_core_model.proofs.lot.Lot.retire.Goals as goal
@@ -18,7 +12,7 @@ invariant_of-self g c =
       max_threads = l.max_threads;
       paired = l.paired;
       sleeps = l.sleeps;
-      waiting = l.waiting.entries.items;
+      waiting = l.waiting.entries;
       owned = l.owned.entries.items;
       places = l.places.items;
       by_bucket = l.buckets.by_bucket.items;
@@ -29,4 +23,4 @@ invariant_of-self g c =
     c.self.view_is ∙ (sym c.retire_fault.ensures ∙ c.in_default.is) in
     subst (λ (ps : List (Option Place)). Owed (record p { owned = c.clear.new.self.entries.items; places = ps })
     l.waiting) (sym c.put.ensures)
-    (gone p l.waiting c.args.thread c.clear.new.self.entries.items c.self.invariant free c.clear.ensures.kept)
+    (gone p l.waiting c.args.thread c.clear.new.self.entries.items c.self.invariant free c.clear.ensures)

@@ -1,13 +1,13 @@
-use Rattle.std.proofs.Common.{◌≡◌, ◌∙◌, ◌≤◌, ◌<◌, ◌%◌, ◌&&◌, ℕ, List, Option, Some, None, Ok, true, false, cond, length, map, slice_set, sym, ap, refl}
-use Rattle.std.proofs.Common.{subst, arith, take, drop}
+use Rattle.std.proofs.Common.{◌∙◌, ◌≤◌, ◌%◌, ℕ, length, sym, ap, refl}
+use Rattle.std.proofs.Common.{subst, arith}
 use Rattle.parking_lot_core_model.specs.declared.place.Section.{Section}
 use Rattle.std.specs.Option.{option_map}
 use Rattle.std.proofs.lemmas.Bool.{false≢true}
 use Rattle.parking_lot_core_model.specs.declared.place.Phase.TheVariants as phase
 use Rattle.parking_lot_core_model.specs.Buckets.{slot}
 use Rattle.parking_lot_core_model.specs.Lists.{updated}
-use Rattle.parking_lot_core_model.specs.Machine.{Parts, Machine, machine, stored, open_at}
-use Rattle.parking_lot_core_model.proofs.Closing.{Owed, kept_so, same_kept}
+use Rattle.parking_lot_core_model.specs.Machine.{Parts, machine, stored}
+use Rattle.parking_lot_core_model.proofs.Closing.{kept_so, same_kept}
 use Rattle.parking_lot_core_model.proofs.Sounds.{sound_section}
 use Rattle.parking_lot_core_model.proofs.lot.Lot.say_store.Goals as goal
 
@@ -19,7 +19,7 @@ invariant_of-self g c =
       max_threads = l.max_threads;
       paired = l.paired;
       sleeps = l.sleeps;
-      waiting = l.waiting.entries.items;
+      waiting = l.waiting.entries;
       owned = l.owned.entries.items;
       places = l.places.items;
       by_bucket = l.buckets.by_bucket.items;
@@ -43,7 +43,7 @@ returns g c =
       max_threads = l.max_threads;
       paired = l.paired;
       sleeps = l.sleeps;
-      waiting = l.waiting.entries.items;
+      waiting = l.waiting.entries;
       owned = l.owned.entries.items;
       places = l.places.items;
       by_bucket = l.buckets.by_bucket.items;

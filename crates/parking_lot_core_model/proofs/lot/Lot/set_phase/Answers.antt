@@ -1,11 +1,11 @@
-use Rattle.std.proofs.Common.{◌≡◌, ◌∙◌, ◌≤◌, ◌<◌, ◌%◌, ◌&&◌, ℕ, List, Option, Some, None, Ok, true, false, cond, length, map, slice_set, sym, ap, refl}
-use Rattle.std.proofs.Common.{subst, arith, take, drop}
+use Rattle.std.proofs.Common.{◌∙◌, ◌≤◌, ◌%◌, ℕ, length, sym, ap, refl}
+use Rattle.std.proofs.Common.{subst, arith}
 use Rattle.parking_lot_core_model.specs.declared.place.Section.{Section}
 use Rattle.std.specs.Option.{option_map}
 use Rattle.parking_lot_core_model.specs.Buckets.{slot}
 use Rattle.parking_lot_core_model.specs.Lists.{updated}
-use Rattle.parking_lot_core_model.specs.Machine.{Parts, Machine, machine, in_phase, open_at}
-use Rattle.parking_lot_core_model.proofs.Closing.{Owed, kept_so, same_kept}
+use Rattle.parking_lot_core_model.specs.Machine.{Parts, machine, in_phase, open_at}
+use Rattle.parking_lot_core_model.proofs.Closing.{kept_so, same_kept}
 use Rattle.parking_lot_core_model.proofs.Sounds.{sound_section}
 use Rattle.parking_lot_core_model.proofs.lot.Lot.set_phase.Goals as goal
 
@@ -17,7 +17,7 @@ invariant_of-self g c =
       max_threads = l.max_threads;
       paired = l.paired;
       sleeps = l.sleeps;
-      waiting = l.waiting.entries.items;
+      waiting = l.waiting.entries;
       owned = l.owned.entries.items;
       places = l.places.items;
       by_bucket = l.buckets.by_bucket.items;
@@ -42,7 +42,7 @@ returns g c =
       max_threads = l.max_threads;
       paired = l.paired;
       sleeps = l.sleeps;
-      waiting = l.waiting.entries.items;
+      waiting = l.waiting.entries;
       owned = l.owned.entries.items;
       places = l.places.items;
       by_bucket = l.buckets.by_bucket.items;

@@ -1,16 +1,8 @@
-use Rattle.std.proofs.Common.{◌≡◌, ◌∙◌, ◌∷◌, ◌++◌, ◌+◌, [], sym, ap, subst, refl, ℕ, Some, None, is_some, List, Option}
-use Rattle.std.proofs.Common.{slice_get, slice_set, map, remove, true, false, cond, arith}
-use Rattle.std.specs.Option.{option_map, IsSome}
-use Rattle.std.proofs.Common.{length}
-use Rattle.parking_lot_core_model.specs.Buckets.{slot}
+use Rattle.std.proofs.Common.{◌∙◌, ◌+◌, sym, ap, subst, is_some, List, Option}
+use Rattle.std.proofs.Common.{cond}
 use Rattle.parking_lot_core_model.specs.declared.place.Place.{Place}
-use Rattle.parking_lot_core_model.specs.declared.place.Place.TheVariants.{Running, Waiting, Held, Taken}
-use Rattle.parking_lot_core_model.specs.declared.place.Section.{Section}
-use Rattle.parking_lot_core_model.specs.declared.place.Phase.TheVariants as phase
-use Rattle.parking_lot_core_model.specs.declared.place.Waiter.{Waiter}
-use Rattle.parking_lot_core_model.specs.Lists.{lists_of, updated, total}
-use Rattle.parking_lot_core_model.specs.Places.{place_at, told, may_join, held, moved_to, changed}
-use Rattle.parking_lot_core_model.specs.Machine.{Parts, machine, moved, moved_first}
+use Rattle.parking_lot_core_model.specs.Chains.{total}
+use Rattle.parking_lot_core_model.specs.Machine.{Parts, machine}
 use Rattle.parking_lot_core_model.specs.Sound.{IsOpen}
 use Rattle.parking_lot_core_model.proofs.Closing.{Owed, nobody_taken, held_parts}
 use Rattle.parking_lot_core_model.proofs.lot.Lot.take_out.Goals as goal
@@ -23,7 +15,7 @@ invariant_of-self g c =
       max_threads = l.max_threads;
       paired = l.paired;
       sleeps = l.sleeps;
-      waiting = l.waiting.entries.items;
+      waiting = l.waiting.entries;
       owned = l.owned.entries.items;
       places = l.places.items;
       by_bucket = l.buckets.by_bucket.items;
@@ -43,7 +35,7 @@ invariant_of-self-2 g c =
       max_threads = l.max_threads;
       paired = l.paired;
       sleeps = l.sleeps;
-      waiting = l.waiting.entries.items;
+      waiting = l.waiting.entries;
       owned = l.owned.entries.items;
       places = l.places.items;
       by_bucket = l.buckets.by_bucket.items;
@@ -51,7 +43,7 @@ invariant_of-self-2 g c =
     }
     in
     let h = c.in_ok-waiter.ensures in
-    subst (λ (ps : List (Option Place)). Owed (record p { waiting = c.take.new.self.entries.items; places = ps })
+    subst (λ (ps : List (Option Place)). Owed (record p { waiting = c.take.new.self.entries; places = ps })
     c.take.new.self) (sym c.hold.ensures)
     (held_parts p l.waiting c.take.new.self c.args.key c.args.nth c.in_ok-waiter.waiter c.self.invariant (sym h.item)
     (subst (λ (v : Parts). IsOpen (machine v) c.args.key) (sym c.self.view_is) c.requires) h.kept h.total h.room)
