@@ -94,7 +94,8 @@ module _ (nodes : List Node) where
   cons_count p e es k =
       elim (e.key == k) as
       (λ b. count_by p (lists_of es k)
-      ≤ count_by p (map (λ (x : Entry Waiter). x.item) (cond b (e ∷ filter (is_under k) es) (filter (is_under k) es)))) [
+      ≤ count_by p (map (λ (x : Entry Waiter). x.item)
+      (cond b (e ∷ filter (is_under k) es) (filter (is_under k) es)))) [
         | true ↦ (let c = count_by-cons p e.item (lists_of es k) in omega (arith, c))
         | false ↦ omega arith
       ]

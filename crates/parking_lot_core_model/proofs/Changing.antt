@@ -269,7 +269,8 @@ module _ (heads : List Head) (nodes : List Node) (l : AreLinked heads nodes) (ke
   leaves_so spot heads' nodes' h j =
       let f = met_found spot h in
       let o = slice_get nodes f.1 in
-      let b : spot.before ≡ last_of None f.0 = ap (λ (s : Spot). s.before) f.4 ∙ spot_before nodes (last_of None f.0) f.1 o in
+      let b : spot.before ≡ last_of None f.0 =
+      ap (λ (s : Spot). s.before) f.4 ∙ spot_before nodes (last_of None f.0) f.1 o in
       let t : spot.waiter.thread ≡ f.1 = ap (λ (s : Spot). s.waiter.thread) f.4
       ∙ spot_thread nodes (last_of None f.0) f.1 o in
       let under : (entry_at f.1 o).key ≡ key = sym (key_before nodes (last_of None f.0) f.1 o)
@@ -278,7 +279,8 @@ module _ (heads : List Head) (nodes : List Node) (l : AreLinked heads nodes) (ke
       let same : j.0 ≡ head = some_is (sym j.1 ∙ (ap (λ k. slice_get heads (k % length heads)) f.5 ∙ at)) in
       let hs : heads' ≡ slice_set heads (key % length heads)
       (head_without head (last_of None f.0) (next_of nodes f.1)) =
-      j.2 ∙ (ap (λ k. slice_set heads (k % length heads) (head_without j.0 spot.before (next_of nodes spot.waiter.thread)))
+      j.2 ∙ (ap (λ k. slice_set heads (k % length heads)
+      (head_without j.0 spot.before (next_of nodes spot.waiter.thread)))
       f.5
       ∙ (ap (λ (x : Head). slice_set heads (key % length heads)
       (head_without x spot.before (next_of nodes spot.waiter.thread))) same

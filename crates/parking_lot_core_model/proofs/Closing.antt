@@ -1,5 +1,6 @@
 -- What a lot's fields owe as they change.
-use Rattle.std.proofs.Common.{◌≡◌, ℕ, ◌+◌, ◌<◌, ◌≤◌, Bool, true, false, List, [], Option, Some, None, slice_set, refl, sym}
+use Rattle.std.proofs.Common.{◌≡◌, ℕ, ◌+◌, ◌<◌, ◌≤◌, Bool, true, false, List, [], Option, Some, None, slice_set, refl}
+use Rattle.std.proofs.Common.{sym}
 use Rattle.std.proofs.Common.{ap, ◌∙◌, subst, arith, is_some, cond, ◌∷◌, ◌++◌, ◌%◌, ◌^◌, remove, slice_get, length}
 use Rattle.std.proofs.Common.{position, eq-eqb, eqb-true, ◌==◌, count_by}
 use Rattle.std.proofs.lemmas.Bool.{false≢true}
@@ -198,7 +199,8 @@ module _ (p : Parts) (w : WaiterLists) where
   pub has_seat : (t k : ℕ) → Owed p w → slot p.by_thread t ≡ Some k → t < length p.by_thread
   has_seat t k h at = by (place_at p.places t) refl (h.0.near t k at)
     where
-      by : (o : Option Place) → place_at p.places t ≡ o → option_map_or (is_near k) o false ≡ true → t < length p.by_thread
+      by : (o : Option Place) → place_at p.places t ≡ o → option_map_or (is_near k) o false ≡ true
+          → t < length p.by_thread
       by None e near = absurd (false≢true near)
       by (Some q) e near = seated w p.places p.max_threads (length p.by_thread) t q h.1 e
 
@@ -206,7 +208,8 @@ module _ (p : Parts) (w : WaiterLists) where
   may_return_seat t key h e = by (place_at p.places t) refl
       (entering (machine p) key (option_map_or (may_return key) (place_at p.places t) false) e).0
     where
-      by : (o : Option Place) → place_at p.places t ≡ o → option_map_or (may_return key) o false ≡ true → t < length p.by_thread
+      by : (o : Option Place) → place_at p.places t ≡ o → option_map_or (may_return key) o false ≡ true
+          → t < length p.by_thread
       by None e may = absurd (false≢true may)
       by (Some q) e may = seated w p.places p.max_threads (length p.by_thread) t q h.1 e
 
@@ -299,10 +302,12 @@ module _ (p : Parts) (w : WaiterLists) where
         subst (λ (ps : List (Option Place)). Owed (record p { waiting = v.entries; places = ps }) v)
         (stands (held key)) (
           subst (λ (qs : ℕ → List Waiter). Sound
-              (record (machine p) { queues = qs; places = slice_set p.places x.thread (Some (Held key s.0)) })) (sym kept)
+              (record (machine p) { queues = qs; places = slice_set p.places x.thread (Some (Held key s.0)) }))
+              (sym kept)
               (sound_left (machine p) key nth x h.0 at (Held key s.0) (λ k. refl)
               (λ k is. subst (λ (j : ℕ). IsOpen (machine p) j) (eqb-true key k is) open_so) (λ k is. is)),
-          room_next w v p.places p.max_threads (length p.by_thread) x.thread (Waiting key s.0) (Some (Held key s.0)) h.1 s.1 same
+          room_next w v p.places p.max_threads (length p.by_thread) x.thread (Waiting key s.0)
+              (Some (Held key s.0)) h.1 s.1 same
               (omega arith),
         )
 
@@ -346,7 +351,8 @@ module _ (p : Parts) (w : WaiterLists) where
         → Owed (record p { waiting = u.entries; places = changed (moved_to to) p.places x.thread }) u
     moved_parts u to nobody kept pushed count more same =
         let s = waiter_place (machine p) key nth x h.0 at in
-        let outside : slot p.by_thread x.thread ≡ None = waits_outside (machine p) x.thread key (Waiting key s.0) h.0 s.1
+        let outside : slot p.by_thread x.thread ≡ None =
+        waits_outside (machine p) x.thread key (Waiting key s.0) h.0 s.1
         (λ k is. sym (eqb-true key k is)) nobody in
         subst (λ (ps : List (Option Place)). Owed (record p { waiting = u.entries; places = ps }) u)
         (stands (moved_to to)) (
@@ -354,7 +360,8 @@ module _ (p : Parts) (w : WaiterLists) where
               (record (machine p) { queues = qs; places = slice_set p.places x.thread (Some (Waiting to s.0)) }))
               (sym (pushed ∙ ap (λ (qs : ℕ → List Waiter). updated qs to (qs to ++ x ∷ [])) kept))
               (sound_relisted (machine p) key nth x h.0 at to s.0 outside),
-          room_next w u p.places p.max_threads (length p.by_thread) x.thread (Waiting key s.0) (Some (Waiting to s.0)) h.1 s.1 same
+          room_next w u p.places p.max_threads (length p.by_thread) x.thread (Waiting key s.0)
+              (Some (Waiting to s.0)) h.1 s.1 same
               (omega arith),
         )
 
@@ -408,5 +415,6 @@ module _ (p : Parts) (w v : WaiterLists) (t key : ℕ) (s : Sleep) (h : Owed p w
             })) same_thread
             (sound_left (machine p) key (position_or_len (is_thread t) queue) itself.0 h.0 itself.1 Running (λ k. refl)
             (λ k is. absurd (false≢true is)) (λ k is. refl))),
-        room_next w v p.places p.max_threads (length p.by_thread) t (Waiting key s) (Some Running) h.1 at same (omega arith),
+        room_next w v p.places p.max_threads (length p.by_thread) t (Waiting key s) (Some Running) h.1 at same
+            (omega arith),
       )

@@ -1,5 +1,6 @@
 -- Sections: what is open in which bucket, and who is in it.
-use Rattle.std.proofs.Common.{◌≡◌, ℕ, ◌<◌, ◌==◌, ◌%◌, ◌⊎◌, Bool, true, false, Option, Some, None, is_some, List, map, refl}
+use Rattle.std.proofs.Common.{◌≡◌, ℕ, ◌<◌, ◌==◌, ◌%◌, ◌⊎◌, Bool, true, false, Option, Some, None, is_some, List, map}
+use Rattle.std.proofs.Common.{refl}
 use Rattle.std.proofs.Common.{sym, ap, ◌∙◌, subst, eq-eqb, mod-lt}
 use mathlib.Core.Logic.{inl, inr}
 use Rattle.std.specs.Option.{option_map, option_map_or, option_and_then}
@@ -12,7 +13,8 @@ use Rattle.parking_lot_core_model.specs.declared.place.Phase.TheVariants as phas
 use Rattle.parking_lot_core_model.specs.Lists.{updated}
 use Rattle.parking_lot_core_model.specs.Buckets.{any_open}
 use Rattle.parking_lot_core_model.specs.Places.{told}
-use Rattle.parking_lot_core_model.specs.Machine.{Machine, bucket_of, open_at, entered_by, section_of, with_section, let_in}
+use Rattle.parking_lot_core_model.specs.Machine.{Machine, bucket_of, open_at, entered_by, section_of, with_section}
+use Rattle.parking_lot_core_model.specs.Machine.{let_in}
 use Rattle.parking_lot_core_model.specs.Machine.{let_out, in_phase, stored, closed}
 use Rattle.parking_lot_core_model.specs.Sound.{SectionsFit}
 use Rattle.parking_lot_core_model.proofs.Kept.{by_eqb, updated_at, updated_other, updated_same, updated_twice}

@@ -163,7 +163,8 @@ module _ (m : Machine) (thread key : ℕ) (rest : List FilterOp) (none : list_an
 -- a filter is an entering, takings, a store and a leaving
 pub filter_in_steps : (m : Machine) (thread key : ℕ) (token : UnparkToken) (ns : List ℕ) (rest : List FilterOp)
     → Sound m → open_at m key ≡ None → m.inside thread ≡ None → list_any is_take rest ≡ false
-    → ShowsSame (closed (stored (in_phase (takings (opened m (Some thread) key) key 0 ns) key phase.Ended) key token) key
+    → ShowsSame (closed (stored (in_phase (takings (opened m (Some thread) key) key 0 ns) key phase.Ended) key token)
+    key
     false) (unparked m key (chosen_by (answers_of ns rest) (m.queues key))
     (passed_by (answers_of ns rest) (m.queues key)) token)
 filter_in_steps m thread key token ns rest h free outside none =

@@ -147,7 +147,8 @@ module _ (nodes : List Node) (count bucket : ℕ) (head : Head) (c : IsChain nod
         let other : (w.thread == s.1) ≡ false =
         eqb_false_symm s.1 w.thread
         (apart_in w.thread s.0 s.1 [] (subst (Apart w.thread) s.2 apart)) in
-        let behind : Leads (with_next one (Some s.1) (Some w.thread)) count bucket (Some w.thread) (w.thread ∷ []) None =
+        let behind : Leads (with_next one (Some s.1) (Some w.thread)) count bucket (Some w.thread)
+        (w.thread ∷ []) None =
         next_other one count bucket s.1 (Some w.thread) (w.thread ∷ []) (Some w.thread) None (other, tt)
         (last_node key w, refl, fresh_here, of, refl) in
         let all = led_on one count bucket s.0 s.1 [] (w.thread ∷ []) head.first (Some w.thread) leads behind in

@@ -13,7 +13,8 @@ use Rattle.parking_lot_core_model.specs.Results.{unpark_result}
 use Rattle.parking_lot_core_model.specs.Operations.{is_abort, Requeues, RequeuesBy}
 use Rattle.parking_lot_core_model.specs.declared.place.Phase.{Phase}
 use Rattle.parking_lot_core_model.specs.declared.place.Section.{Section}
-use Rattle.parking_lot_core_model.specs.Machine.{Machine, open_at, section_of, in_section, step_fault, busy, either_busy}
+use Rattle.parking_lot_core_model.specs.Machine.{Machine, open_at, section_of, in_section, step_fault, busy}
+use Rattle.parking_lot_core_model.specs.Machine.{either_busy}
 use Rattle.parking_lot_core_model.specs.Machine.{Unless}
 use Rattle.parking_lot_core_model.proofs.Entering.{some≢none}
 

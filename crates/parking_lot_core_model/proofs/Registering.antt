@@ -71,7 +71,10 @@ register_allows m e = by (nat_lt (free_number m.places) m.max_threads) refl e
     by : (b : Bool) → nat_lt (free_number m.places) m.max_threads ≡ b
         → cond b (cond (must_grow m && any_open m.sections m.buckets) (Some Busy) None) (Some TooManyThreads) ≡ None
         → (free_number m.places < m.max_threads) × ((must_grow m && any_open m.sections m.buckets) ≡ false)
-    by true e is = (ltb-true (free_number m.places) m.max_threads e, calm (must_grow m && any_open m.sections m.buckets) is)
+    by true e is = (
+      ltb-true (free_number m.places) m.max_threads e,
+      calm (must_grow m && any_open m.sections m.buckets) is,
+    )
     by false e is = absurd (some≢none is)
 
 pub sound_registered : (m : Machine) → Sound m → (must_grow m && any_open m.sections m.buckets) ≡ false

@@ -26,7 +26,8 @@ use Rattle.parking_lot_core_model.specs.Places.{place_at, changed, held, moved_t
 use Rattle.parking_lot_core_model.specs.Places.{is_near}
 use Rattle.parking_lot_core_model.specs.Places.{is_due, passed_of, may_check, may_join, may_take, may_store, may_return}
 use Rattle.parking_lot_core_model.specs.Results.{is_take, is_skip, chosen_by, passed_by, woken_by, moved_by, left_by}
-use Rattle.parking_lot_core_model.specs.Machine.{Machine, is_thread, bucket_of, open_at, section_of, in_section, any_phase}
+use Rattle.parking_lot_core_model.specs.Machine.{Machine, is_thread, bucket_of, open_at, section_of, in_section}
+use Rattle.parking_lot_core_model.specs.Machine.{any_phase}
 use Rattle.parking_lot_core_model.specs.Machine.{busy, step_fault, fresh_section, quitted, is_in}
 use Rattle.parking_lot_core_model.specs.Machine.{status_at, runs, token_of, changed_at, given_up, resumed, returned}
 use Rattle.parking_lot_core_model.specs.Machine.{return_fault, taken, moved, moved_first, unparked, requeued, opened}

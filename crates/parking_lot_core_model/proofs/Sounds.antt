@@ -337,7 +337,8 @@ sound_within m n h free outside runs near = record {
       (x.0, stays_beside m.buckets m.sections m.inside h.fit n free outside (bucket_of m k) x.0 x.1, x.2);
   inside = λ b s t at whose may. was_beside m.buckets m.sections m.inside h.fit n free outside b s
       (place_at m.places t ≡ Some Running) at
-      (λ e same. runs t (ap (λ (x : Section). x.thread) same ∙ whose) (ap (λ (x : Section). may_join x.phase) same ∙ may))
+      (λ e same. runs t (ap (λ (x : Section). x.thread) same ∙ whose) (ap (λ (x : Section). may_join x.phase) same
+      ∙ may))
       (λ old. h.inside b s t old whose may);
   near = λ t k at. comes_near n.thread (λ v e. near v e) t k at;
   fit = fits_beside m.buckets m.sections m.inside h.fit n free outside;

@@ -13,7 +13,8 @@ use Rattle.parking_lot_core_model.specs.declared.chains.Head.{Head}
 use Rattle.parking_lot_core_model.specs.declared.lists.Entry.{Entry}
 use Rattle.parking_lot_core_model.specs.declared.place.Waiter.{Waiter}
 use Rattle.parking_lot_core_model.specs.Lists.{updated, is_under, lists_of}
-use Rattle.parking_lot_core_model.specs.Chains.{entry_of, walk, chain, entries, Leads, IsChain, AreLinked, Joins, nobody}
+use Rattle.parking_lot_core_model.specs.Chains.{entry_of, walk, chain, entries, Leads, IsChain, AreLinked, Joins}
+use Rattle.parking_lot_core_model.specs.Chains.{nobody}
 use Rattle.parking_lot_core_model.specs.Chains.{head_with, AreEmpty, HaveNodes, MayBeLinked}
 use Rattle.parking_lot_core_model.proofs.Kept.{by_eqb, lists_of-push}
 use Rattle.parking_lot_core_model.proofs.Numbers.{flag, flag-le, count_by-cons, count_by-append}

@@ -42,7 +42,8 @@ taken_more m key ws rest i w at =
     let here : updated m.queues key rest key ≡ rest = updated_at m.queues key rest in
     ap (λ (qs : List Waiter). record (all_taken m key ws rest) {
       queues = updated (updated m.queues key rest) key (remove qs i);
-      places = option_map_or (λ x. changed (held key) (all_changed (held key) m.places (threads_of ws)) x.thread) (slice_get qs i)
+      places = option_map_or (λ x. changed (held key) (all_changed (held key) m.places (threads_of ws)) x.thread)
+          (slice_get qs i)
           (all_changed (held key) m.places (threads_of ws));
     }) here
     ∙ (ap (λ (o : Option Waiter). record (all_taken m key ws rest) {
@@ -55,7 +56,8 @@ taken_more m key ws rest i w at =
     (updated_twice m.queues key rest (remove rest i))
     ∙ ap (λ (ps : List (Option Place)). record (all_taken m key ws rest)
     { queues = updated m.queues key (remove rest i); places = ps })
-    (sym (ap (all_changed (held key) m.places) (threads_more ws w) ∙ all_changed_more (held key) m.places (threads_of ws)
+    (sym (ap (all_changed (held key) m.places) (threads_more ws w)
+    ∙ all_changed_more (held key) m.places (threads_of ws)
     w.thread))))
 
 module _ {X : Type 0} where
@@ -91,7 +93,8 @@ taken_front_suc m key i = front (slice_get (m.queues key) i) refl
         ap (λ (rest : List Waiter). taken (all_taken m key (take i q) rest) key 0) r.1
         ∙ (ap (λ (qs : List Waiter). record (all_taken m key (take i q) []) {
           queues = updated (updated m.queues key []) key (remove qs 0);
-          places = option_map_or (λ x. changed (held key) (all_changed (held key) m.places (threads_of (take i q))) x.thread)
+          places = option_map_or (λ x. changed (held key)
+              (all_changed (held key) m.places (threads_of (take i q))) x.thread)
               (slice_get qs 0) (all_changed (held key) m.places (threads_of (take i q)));
         }) (updated_at m.queues key [])
         ∙ (ap (λ (qs : ℕ → List Waiter). record (all_taken m key (take i q) []) { queues = qs })
@@ -114,7 +117,8 @@ taken_front m key i = rw add-one (taken_front_suc m key i)
 told_woken : (key : ℕ) (token : UnparkToken) (p : Place)
     → told key token true (held key p) ≡ woken key token (told key token true p)
 told_woken key token Running = refl
-told_woken key token (Waiting key' s) = cond-true (key == key) (Taken token key s true) (Held key s) (eq-eqb key key refl)
+told_woken key token (Waiting key' s) = cond-true (key == key) (Taken token key s true) (Held key s)
+    (eq-eqb key key refl)
 told_woken key token (Held key' s) =
     elim (key' == key) as (λ b. cond b (Taken token key' s true) (Held key' s) ≡ woken key token
     (cond b (Taken token key' s true) (Held key' s)))
@@ -150,7 +154,8 @@ told_all f g h same ps (t ∷ ts) = told_all f g h same (changed f ps t) ts
 
 -- where nobody is held by a section of the key, nobody is told
 pub nobody_told : (key : ℕ) (token : UnparkToken) (b : Bool) (ps : List (Option Place))
-    → ((t : ℕ) → option_map_or (is_held key) (place_at ps t) false ≡ false) → map (option_map (told key token b)) ps ≡ ps
+    → ((t : ℕ) → option_map_or (is_held key) (place_at ps t) false ≡ false)
+    → map (option_map (told key token b)) ps ≡ ps
 nobody_told key token b [] none = refl
 nobody_told key token b (o ∷ ps) none = ap (λ x. x ∷ map (option_map (told key token b)) ps) (one o (none 0))
     ∙ ap (λ xs. o ∷ xs) (nobody_told key token b ps (λ t. none (suc t)))
@@ -175,7 +180,8 @@ module _ (m : Machine) (key : ℕ) (token : UnparkToken)
 
     -- a section that took some, and closes, has woken them: from any phase, and whosever it is
     pub closed_taken_by : (s : Section) → IsOutside m s.thread → (ws rest : List Waiter)
-        → closed (stored (within (all_taken m key ws rest) (record s { key = key })) key token) key true ≡ unparked m key ws
+        → closed (stored (within (all_taken m key ws rest) (record s { key = key })) key token) key true
+        ≡ unparked m key ws
         rest token
     closed_taken_by s outside ws rest =
         let n = all_taken m key ws rest in

@@ -1,5 +1,6 @@
 -- Operations that are done whole, and in the steps of a section.
-use Rattle.std.proofs.Common.{◌≡◌, ℕ, ◌+◌, ◌%◌, ◌^◌, ◌==◌, Bool, true, false, cond, Option, List, [], ◌∷◌, map, take, drop}
+use Rattle.std.proofs.Common.{◌≡◌, ℕ, ◌+◌, ◌%◌, ◌^◌, ◌==◌, Bool, true, false, cond, Option, List, [], ◌∷◌, map, take}
+use Rattle.std.proofs.Common.{drop}
 use Rattle.std.proofs.Common.{Some, None, slice_set, refl, sym, ap, ◌∙◌, subst}
 use Rattle.std.specs.Option.{option_map}
 use Rattle.std.proofs.lemmas.List.{map-set}
@@ -29,12 +30,14 @@ outside_of m thread out t e = ap m.inside (sym (same_some e)) ∙ out
 -- a section that came on twice
 phased : (m : Machine) (s : Section) (a b : Phase)
     → in_phase (in_phase (within m s) s.key a) s.key b ≡ within m (record s { phase = b })
-phased m s a b = ap (λ (x : Machine). in_phase x s.key b) (phase_within m s a) ∙ phase_within m (record s { phase = a }) b
+phased m s a b = ap (λ (x : Machine). in_phase x s.key b) (phase_within m s a)
+    ∙ phase_within m (record s { phase = a }) b
 
 -- a park is an entering, a check, an appending and a leaving
 pub park_in_steps : (m : Machine) (thread key : ℕ) (token : ParkToken) (timed : Bool) → Sound m → open_at m key ≡ None
     → m.inside thread ≡ None
-    → closed (joined (in_phase (in_phase (opened m (Some thread) key) key phase.Valid) key phase.Joined) thread key token
+    → closed (joined (in_phase (in_phase (opened m (Some thread) key) key phase.Valid) key phase.Joined) thread key
+    token
     timed) key false ≡ joined m thread key token timed
 park_in_steps m thread key token timed h free outside =
     let s0 = fresh_section (Some thread) key in
@@ -129,7 +132,8 @@ closed_alike n key = record {
 -- an unpark of the first is an entering, a taking, a store and a leaving
 pub first_in_steps : (m : Machine) (thread key : ℕ) (token : UnparkToken) → Sound m → open_at m key ≡ None
     → m.inside thread ≡ None
-    → ShowsSame (closed (stored (taken (in_phase (opened m (Some thread) key) key (phase.Taking 0)) key 0) key token) key
+    → ShowsSame (closed (stored (taken (in_phase (opened m (Some thread) key) key (phase.Taking 0)) key 0) key token)
+    key
     false) (unparked m key (take 1 (m.queues key)) (drop 1 (m.queues key)) token)
 first_in_steps m thread key token h free outside =
     let s0 = fresh_section (Some thread) key in

@@ -1,5 +1,6 @@
 -- Buckets of keys: how many there are, and what stands in them.
-use Rattle.std.specs.Prelude.{◌≡◌, ℕ, zero, suc, ◌+◌, ◌*◌, ◌/◌, ◌^◌, ◌≤◌, ◌||◌, Bool, false, nat_lt, if◌then◌else◌, List, Option, Some}
+use Rattle.std.specs.Prelude.{◌≡◌, ℕ, zero, suc, ◌+◌, ◌*◌, ◌/◌, ◌^◌, ◌≤◌, ◌||◌, Bool, false, nat_lt, if◌then◌else◌}
+use Rattle.std.specs.Prelude.{List, Option, Some}
 use Rattle.std.specs.Prelude.{None, is_some, slice_get}
 use Rattle.std.specs.Option.{option_and_then}
 use Rattle.parking_lot_core_model.specs.declared.place.Section.{Section}

@@ -253,7 +253,11 @@ joined m thread key token timed =
 -- a key's list is left with these waiters, and those others are woken with a token
 abbrev pub unparked : Machine → ℕ → List Waiter → List Waiter → UnparkToken → Machine
 unparked m key waiters rest token =
-    record m { queues = updated m.queues key rest; places = all_changed (woken key token) m.places (threads_of waiters) }
+    record m {
+      queues = updated m.queues key rest;
+      places = all_changed (woken key token) m.places
+          (threads_of waiters);
+    }
 
 -- it is left with these waiters, and those others stand at the end of another key's list
 abbrev pub moved : Machine → ℕ → ℕ → List Waiter → List Waiter → Machine

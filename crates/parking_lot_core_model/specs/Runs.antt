@@ -75,7 +75,8 @@ fault_of m (Quit thread) = quit_fault m thread
 abbrev pub taken_next : Machine → List FilterOp → Section → Machine
 taken_next m answers s =
     let at = passed_of s.phase + count_by is_skip answers in
-    if list_any is_take answers then taken (in_phase m s.key (phase.Taking at)) s.key at else in_phase m s.key phase.Ended
+    if list_any is_take answers then taken (in_phase m s.key (phase.Taking at)) s.key at else in_phase m s.key
+    phase.Ended
 
 -- what it leaves, where it isn't refused
 abbrev pub effect_of : Machine → Operation → Machine

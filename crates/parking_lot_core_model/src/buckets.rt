@@ -48,7 +48,8 @@ impl<A: Allocator> Buckets<A> {
     /// Has another section, or none, be open in the bucket of a key.
     pub fn put(&mut self, key: usize, section: Option<Section>)
         ensures count { length self.new.by_bucket.items ≡ length self.old.by_bucket.items }
-        ensures sections { slot self.new.by_bucket.items ≡ updated (slot self.old.by_bucket.items) (key % length self.old.by_bucket.items) section }
+        ensures sections { slot self.new.by_bucket.items
+            ≡ updated (slot self.old.by_bucket.items) (key % length self.old.by_bucket.items) section }
         ensures keys { slot self.new.by_thread.items ≡ slot self.old.by_thread.items }
         ensures seats { length self.new.by_thread.items ≡ length self.old.by_thread.items }
     {
@@ -117,7 +118,8 @@ impl<A: Allocator> Buckets<A> {
 impl<A: Allocator + Clone> Buckets<A> {
     /// No section is open, and nobody is in one.
     pub fn new(alloc: A) -> Result<Self, AllocError>
-        ensures { IfOk result (λ made. (length made.by_bucket.items ≡ 16) × (slot made.by_bucket.items ≡ (λ (_ : ℕ). None)) × (slot made.by_thread.items ≡ (λ (_ : ℕ). None))) }
+        ensures { IfOk result (λ made. (length made.by_bucket.items ≡ 16)
+            × (slot made.by_bucket.items ≡ (λ (_ : ℕ). None)) × (slot made.by_thread.items ≡ (λ (_ : ℕ). None))) }
     {
         Ok(Buckets {
             by_bucket: vec![in alloc.clone()?; None; FIRST_COUNT]?,
@@ -175,8 +177,9 @@ pub(crate) fn threads_with(paired: bool, numbers: usize) -> usize
     if paired { (numbers + 1) / 2 } else { numbers }
 }
 
-/// How many buckets so many threads have.
-pub(crate) fn buckets_for(threads: usize) -> usize
+/// How many buckets of keys a lot has for so many threads: the least power of two that is 16 or more, and three times
+/// as many as they are or more.
+pub fn buckets_for(threads: usize) -> usize
     requires { threads ≤ 131072 }
     ensures { result ≡ buckets_for threads }
 {

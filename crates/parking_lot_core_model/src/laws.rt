@@ -17,7 +17,8 @@ ghost use Rattle.parking_lot_core_model.specs.Runs.{Operation, after_all, fresh,
 /// Whatever operations and steps of sections are made on a new lot, in whatever order: a waiting thread stands in its
 /// key's list once, and nobody stands in two lists or twice in one.
 pub fn every_run_is_sound()
-    ensures single { (limit number : ℕ) (operations : List Operation) → Sound (after_all (fresh limit number) operations) }
+    ensures single { (limit number : ℕ) (operations : List Operation)
+        → Sound (after_all (fresh limit number) operations) }
     ensures paired { (limit number : ℕ) (operations : List Operation)
         → Sound (after_all (fresh_paired limit number) operations) }
 {}
@@ -25,8 +26,10 @@ pub fn every_run_is_sound()
 /// A park is the entering of a section, the check of its validation, the appending and the leaving, where nothing comes
 /// between: `valid` says what is left where the validation answers true, `invalid` what else.
 pub fn park_is_its_steps()
-    ensures valid { (m : Machine) (thread key : ℕ) (token : ParkToken) (timed : Bool) → Sound m → open_at m key ≡ None → m.inside thread ≡ None
-        → closed (joined (in_phase (in_phase (opened m (Some thread) key) key phase.Valid) key phase.Joined) thread key token
+    ensures valid { (m : Machine) (thread key : ℕ) (token : ParkToken) (timed : Bool) → Sound m → open_at m key ≡ None
+        → m.inside thread ≡ None
+        → closed (joined (in_phase (in_phase (opened m (Some thread) key) key phase.Valid) key phase.Joined) thread
+        key token
         timed) key false ≡ joined m thread key token timed }
     ensures invalid { (m : Machine) (thread key : ℕ) → Sound m → open_at m key ≡ None → m.inside thread ≡ None
         → closed (in_phase (opened m (Some thread) key) key phase.Invalid) key false ≡ m }
@@ -35,8 +38,10 @@ pub fn park_is_its_steps()
 /// An unpark of the first waiter is the entering of a section, one taking, the store and the leaving. What is shown of
 /// the lot is the same; but the whole operation has woken the thread, too.
 pub fn unpark_one_is_its_steps()
-    ensures { (m : Machine) (thread key : ℕ) (token : UnparkToken) → Sound m → open_at m key ≡ None → m.inside thread ≡ None
-        → ShowsSame (closed (stored (taken (in_phase (opened m (Some thread) key) key (phase.Taking 0)) key 0) key token) key false)
+    ensures { (m : Machine) (thread key : ℕ) (token : UnparkToken) → Sound m → open_at m key ≡ None
+        → m.inside thread ≡ None
+        → ShowsSame (closed (stored (taken (in_phase (opened m (Some thread) key) key (phase.Taking 0)) key 0) key
+        token) key false)
         (unparked m key (take 1 (m.queues key)) (drop 1 (m.queues key)) token) }
 {}
 
@@ -46,7 +51,8 @@ pub fn unpark_one_is_its_steps()
 pub fn unpark_filter_is_its_steps()
     ensures { (m : Machine) (thread key : ℕ) (token : UnparkToken) (passes : List ℕ) (rest : List FilterOp) → Sound m
         → open_at m key ≡ None → m.inside thread ≡ None → list_any is_take rest ≡ false
-        → ShowsSame (closed (stored (in_phase (takings (opened m (Some thread) key) key 0 passes) key phase.Ended) key token)
+        → ShowsSame (closed (stored (in_phase (takings (opened m (Some thread) key) key 0 passes) key phase.Ended) key
+        token)
         key false) (unparked m key (chosen_by (answers_of passes rest) (m.queues key))
         (passed_by (answers_of passes rest) (m.queues key)) token) }
 {}

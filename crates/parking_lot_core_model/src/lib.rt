@@ -22,6 +22,7 @@ mod spread;
 mod steps;
 mod waiters;
 
+pub use buckets::buckets_for;
 pub use fault::{LotFault, SizeFault};
 pub use lot::Lot;
 pub use parking::{

@@ -1,9 +1,14 @@
 //! The exact lot: its threads, and what it shows of them.
-ghost use Rattle.std.specs.Prelude.{◌≡◌, ◌<◌, ◌≤◌, ◌↔◌, ◌⊎◌, ◌&&◌, if◌then◌else◌, is_some, ℕ, IfOk, IfSome, IfErr, IsTrue, IsErrOf, false, Some, None, Err, count_by};
+ghost use Rattle.std.specs.Prelude.{◌≡◌, ◌<◌, ◌≤◌, ◌↔◌, ◌⊎◌, ◌&&◌, if◌then◌else◌, is_some, ℕ, IfOk, IfSome, IfErr};
+ghost use Rattle.std.specs.Prelude.{IsTrue, IsErrOf, false, Some, None, Err, count_by};
 ghost use Rattle.parking_lot_core_model.specs.Places.{place_at, late, roused, is_due, is_held, held_at};
 ghost use Rattle.std.specs.Option.{option_map_or};
 ghost use Rattle.parking_lot_core_model.specs.Buckets.{any_open};
-ghost use Rattle.parking_lot_core_model.specs.Machine.{machine, status_at, threads_of, is_in, is_thread, register_fault, retire_fault, deadline_fault, owner_fault, enter_fault, free_number, busy, either_busy, open_at, token_of, buckets_wanted, must_grow, changed_at, registered, retired, recorded, forgotten, Does, Makes, MakesOr};
+ghost use Rattle.parking_lot_core_model.specs.Machine.{machine, status_at, threads_of, is_in, is_thread};
+ghost use Rattle.parking_lot_core_model.specs.Machine.{register_fault, retire_fault, deadline_fault, owner_fault};
+ghost use Rattle.parking_lot_core_model.specs.Machine.{enter_fault, free_number, busy, either_busy, open_at};
+ghost use Rattle.parking_lot_core_model.specs.Machine.{token_of, buckets_wanted, must_grow, changed_at, registered};
+ghost use Rattle.parking_lot_core_model.specs.Machine.{retired, recorded, forgotten, Does, Makes, MakesOr};
 ghost use Rattle.parking_lot_core_model.specs.Runs.{fresh, fresh_paired};
 ghost use Rattle.parking_lot_core_model.specs.Sound.{Sound, times_at};
 ghost use Rattle.parking_lot_core_model.specs.declared.fault.SizeFault.TheVariants.{BadSize};
@@ -69,9 +74,30 @@ impl<A: Allocator> Model for Lot<A> {
 
     ghost Value = { Parts };
 
-    ghost view = { λ l. record { number = l.number; max_threads = l.max_threads; paired = l.paired; sleeps = l.sleeps; waiting = l.waiting.entries; owned = l.owned.entries.items; places = l.places.items; by_bucket = l.buckets.by_bucket.items; by_thread = l.buckets.by_thread.items } };
+    ghost view = { λ l. record {
+      number = l.number;
+      max_threads = l.max_threads;
+      paired = l.paired;
+      sleeps = l.sleeps;
+      waiting = l.waiting.entries;
+      owned = l.owned.entries.items;
+      places = l.places.items;
+      by_bucket = l.buckets.by_bucket.items;
+      by_thread = l.buckets.by_thread.items;
+    } };
 
-    ghost invariant = { λ l. Sound (machine (record { number = l.number; max_threads = l.max_threads; paired = l.paired; sleeps = l.sleeps; waiting = l.waiting.entries; owned = l.owned.entries.items; places = l.places.items; by_bucket = l.buckets.by_bucket.items; by_thread = l.buckets.by_thread.items })) × Room l.waiting l.places.items l.max_threads (length l.buckets.by_thread.items) };
+    ghost invariant = { λ l. Sound (machine (record {
+      number = l.number;
+      max_threads = l.max_threads;
+      paired = l.paired;
+      sleeps = l.sleeps;
+      waiting = l.waiting.entries;
+      owned = l.owned.entries.items;
+      places = l.places.items;
+      by_bucket = l.buckets.by_bucket.items;
+      by_thread = l.buckets.by_thread.items;
+    }))
+        × Room l.waiting l.places.items l.max_threads (length l.buckets.by_thread.items) };
 }
 
 impl<A: Allocator> Lot<A> {
@@ -171,7 +197,8 @@ impl<A: Allocator> Lot<A> {
     /// Why no section of the key can be entered now.
     pub(crate) fn busy(&self, key: usize) -> Option<LotFault>
         ensures fault { result ≡ busy key (machine self.now) }
-        ensures quiet { result ≡ None → (thread : ℕ) → option_map_or (is_held key) (place_at (machine self.now).places thread) false ≡ false }
+        ensures quiet { result ≡ None → (thread : ℕ)
+            → option_map_or (is_held key) (place_at (machine self.now).places thread) false ≡ false }
     {
         if self.is_entered(key) {
             Some(LotFault::Busy)
@@ -183,7 +210,8 @@ impl<A: Allocator> Lot<A> {
     /// Why sections of two keys can't be entered now.
     pub(crate) fn either_busy(&self, key: usize, other: usize) -> Option<LotFault>
         ensures fault { result ≡ either_busy key other (machine self.now) }
-        ensures quiet { result ≡ None → (thread : ℕ) → option_map_or (is_held key) (place_at (machine self.now).places thread) false ≡ false }
+        ensures quiet { result ≡ None → (thread : ℕ)
+            → option_map_or (is_held key) (place_at (machine self.now).places thread) false ≡ false }
     {
         if let Some(fault) = self.busy(key) {
             return Some(fault);
@@ -194,13 +222,14 @@ impl<A: Allocator> Lot<A> {
     /// Whether a section is open in the bucket of this key: others that would enter one there are refused as `Busy`.
     pub fn is_entered(&self, key: usize) -> bool
         ensures entered { result ≡ is_some (open_at (machine self.now) key) }
-        ensures quiet { result ≡ false → (thread : ℕ) → option_map_or (is_held key) (place_at (machine self.now).places thread) false ≡ false }
+        ensures quiet { result ≡ false → (thread : ℕ)
+            → option_map_or (is_held key) (place_at (machine self.now).places thread) false ≡ false }
     {
         self.buckets.at(key).is_some()
     }
 
-    /// That the lot is sound, for who says what a call on it did: a waiting thread stands once in its key's list, and nobody stands
-    /// elsewhere. It does nothing.
+    /// That the lot is sound, for who says what a call on it did: a waiting thread stands once in its key's list, and
+    /// nobody stands elsewhere. It does nothing.
     pub fn known(&self)
         ensures { Sound (machine self.now) }
     {
@@ -225,7 +254,8 @@ impl<A: Allocator> Lot<A> {
     /// Whether a section is open that keeps the buckets from becoming more.
     fn is_kept_small(&self) -> bool
         requires { free_number (machine self.now).places < 131072 }
-        ensures { result ≡ (must_grow (machine self.now) && any_open (machine self.now).sections (machine self.now).buckets) }
+        ensures { result ≡ (must_grow (machine self.now) && any_open (machine self.now).sections
+            (machine self.now).buckets) }
     {
         self.buckets.count() < self.buckets_wanted() && self.buckets.is_any_open()
     }
@@ -247,8 +277,10 @@ impl<A: Allocator> Lot<A> {
     /// are to be more buckets no section may be open. Each list stays as it is.
     pub fn register(&mut self) -> Result<usize, LotFault>
         ensures full { IfSome (register_fault (machine self.old)) (λ fault. result ≡ Err fault) }
-        ensures ok { IfOk result (λ thread. (thread ≡ free_number (machine self.old).places) × (thread < (machine self.old).max_threads) × (machine self.new ≡ registered (machine self.old))) }
-        ensures err { IfErr result (λ fault. ((register_fault (machine self.old) ≡ Some fault) ⊎ (fault ≡ NoMemory)) × (machine self.new ≡ machine self.old)) }
+        ensures ok { IfOk result (λ thread. (thread ≡ free_number (machine self.old).places)
+            × (thread < (machine self.old).max_threads) × (machine self.new ≡ registered (machine self.old))) }
+        ensures err { IfErr result (λ fault. ((register_fault (machine self.old) ≡ Some fault) ⊎ (fault ≡ NoMemory))
+            × (machine self.new ≡ machine self.old)) }
     {
         if let Some(fault) = self.register_fault() {
             return Err(fault);
@@ -269,7 +301,8 @@ impl<A: Allocator> Lot<A> {
 
     /// Gives a running thread's number back, with its recorded resources. The room stays.
     pub fn retire(&mut self, thread: usize) -> Result<(), LotFault>
-        ensures { Does (λ m. retire_fault m thread) (Makes (λ m. retired m thread)) (machine self.old) result (machine self.new) }
+        ensures { Does (λ m. retire_fault m thread) (Makes (λ m. retired m thread)) (machine self.old) result
+            (machine self.new) }
     {
         if let Some(fault) = self.retire_fault(thread) {
             return Err(fault);
@@ -281,7 +314,8 @@ impl<A: Allocator> Lot<A> {
 
     /// Has a thread's deadline come. It needs to sleep in a timed wait, and may have been taken, if it isn't woken yet.
     pub fn deadline(&mut self, thread: usize) -> Result<(), LotFault>
-        ensures { Does (λ m. deadline_fault m thread) (Makes (λ m. changed_at late m thread)) (machine self.old) result (machine self.new) }
+        ensures { Does (λ m. deadline_fault m thread) (Makes (λ m. changed_at late m thread))
+            (machine self.old) result (machine self.new) }
     {
         let Some(place) = self.place(thread) else {
             return Err(LotFault::WrongStatus);
@@ -293,11 +327,13 @@ impl<A: Allocator> Lot<A> {
         Ok(())
     }
 
-    /// Wakes a thread that a section has taken, behind the section's end. It acts only where the thread still carries the
-    /// mark of the sleep that it was taken out of, so that a late call never ends a later sleep. Answers whether it acted.
+    /// Wakes a thread that a section has taken, behind the section's end. It acts only where the thread still carries
+    /// the mark of the sleep that it was taken out of, so that a late call never ends a later sleep. Answers whether it
+    /// acted.
     pub fn wake(&mut self, thread: usize, mark: u64) -> bool
         ensures due { result ≡ option_map_or (is_due mark) (place_at (machine self.old).places thread) false }
-        ensures woken { machine self.new ≡ (if result then changed_at roused (machine self.old) thread else machine self.old) }
+        ensures woken { machine self.new ≡ (if result then changed_at roused
+            (machine self.old) thread else machine self.old) }
     {
         let Some(place) = self.place(thread) else {
             return false;
@@ -311,7 +347,8 @@ impl<A: Allocator> Lot<A> {
 
     /// Records one more occurrence of a resource.
     pub fn acquire_resource(&mut self, thread: usize, key: usize) -> Result<(), LotFault>
-        ensures { Does (λ m. owner_fault m thread) (MakesOr NoMemory (λ m. recorded m thread key)) (machine self.old) result (machine self.new) }
+        ensures { Does (λ m. owner_fault m thread) (MakesOr NoMemory (λ m. recorded m thread key))
+            (machine self.old) result (machine self.new) }
     {
         if self.place(thread).is_none() {
             return Err(LotFault::WrongStatus);
@@ -322,7 +359,8 @@ impl<A: Allocator> Lot<A> {
 
     /// Forgets one occurrence of a resource, if there is one.
     pub fn release_resource(&mut self, thread: usize, key: usize) -> Result<(), LotFault>
-        ensures { Does (λ m. owner_fault m thread) (Makes (λ m. forgotten m thread key)) (machine self.old) result (machine self.new) }
+        ensures { Does (λ m. owner_fault m thread) (Makes (λ m. forgotten m thread key)) (machine self.old) result
+            (machine self.new) }
     {
         if self.place(thread).is_none() {
             return Err(LotFault::WrongStatus);
@@ -333,8 +371,8 @@ impl<A: Allocator> Lot<A> {
 }
 
 impl<A: Allocator + Clone> Lot<A> {
-    /// Makes a lot for at most `max_threads` threads at a time, from 1 to 65,536, that bears `number`. Different lots are
-    /// to get different numbers.
+    /// Makes a lot for at most `max_threads` threads at a time, from 1 to 65,536, that bears `number`. Different lots
+    /// are to get different numbers.
     pub fn new(alloc: A, max_threads: usize, number: u64) -> Result<Lot<A>, SizeFault>
         ensures size { IsErrOf result BadSize ↔ ((max_threads ≡ 0) ⊎ (65536 < max_threads)) }
         ensures made { IfOk result (λ lot. machine lot ≡ fresh max_threads number) }
@@ -379,7 +417,8 @@ impl<A: Allocator + Clone> Lot<A> {
     pub fn resources(&self, thread: usize) -> Result<Vec<usize, A>, LotFault>
         ensures fault { IfSome (owner_fault (machine self.now) thread) (λ fault. result ≡ Err fault) }
         ensures ok { IfOk result (λ keys. keys.items ≡ (machine self.now).resources thread) }
-        ensures err { IfErr result (λ fault. (owner_fault (machine self.now) thread ≡ Some fault) ⊎ (fault ≡ NoMemory)) }
+        ensures err { IfErr result (λ fault. (owner_fault (machine self.now) thread ≡ Some fault)
+            ⊎ (fault ≡ NoMemory)) }
     {
         if self.place(thread).is_none() {
             return Err(LotFault::WrongStatus);

@@ -104,7 +104,8 @@ impl<A: Allocator> Lot<A> {
     where
         C: Drop,
         requires { C.IsAlwaysCallable callback }
-        ensures { Does (busy key) (UnparksOne false (C.post callback) key) (machine self.old) result (machine self.new) }
+        ensures { Does (busy key) (UnparksOne false (C.post callback) key) (machine self.old) result
+            (machine self.new) }
     {
         self.unpark_first(key, false, callback)
     }

@@ -23,7 +23,8 @@ use std::alloc::Allocator;
 impl<A: Allocator> Lot<A> {
     /// Opens a section of a key, of a running thread. While it is open nothing else can enter one in the key's bucket.
     pub fn enter(&mut self, thread: usize, key: usize) -> Result<(), LotFault>
-        ensures { Does (λ m. enter_fault m thread key) (Makes (λ m. opened m (Some thread) key)) (machine self.old) result
+        ensures { Does (λ m. enter_fault m thread key) (Makes (λ m. opened m (Some thread) key))
+            (machine self.old) result
             (machine self.new) }
     {
         if let Some(fault) = self.enter_fault(thread, key) {
@@ -106,7 +107,8 @@ impl<A: Allocator> Lot<A> {
 
     /// Says that the word has been stored, and gives those that the section took their token.
     pub fn store_done(&mut self, thread: usize, unpark_token: UnparkToken) -> Result<(), LotFault>
-        ensures { Does (λ m. step_fault may_store m thread) (Makes (in_section (λ m key. stored m key unpark_token) thread))
+        ensures { Does (λ m. step_fault may_store m thread)
+            (Makes (in_section (λ m key. stored m key unpark_token) thread))
             (machine self.old) result (machine self.new) }
     {
         let Some(section) = self.section_of(thread) else {

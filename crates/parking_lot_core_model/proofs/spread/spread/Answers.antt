@@ -18,7 +18,8 @@ link_all-requires-clause-order g c =
     let order : c.deref-3.result.now ≡ entries ns hs =
     c.deref-3.ensures.value
     ∙ (c.in_ok-gather.ensures
-    ∙ (ap (λ es. es ++ entries c.deref-2.result.now c.deref.result.now) (c.in_ok-reserve-2.ensures.items ∙ c.clear.ensures.items)
+    ∙ (ap (λ es. es ++ entries c.deref-2.result.now c.deref.result.now) (c.in_ok-reserve-2.ensures.items
+    ∙ c.clear.ensures.items)
     ∙ (ap (λ xs. entries xs c.deref.result.now) c.deref-2.ensures.value
     ∙ ap (entries ns) (c.deref.ensures.value ∙ c.in_ok-reserve.ensures.items)))) in
     subst (MayBeLinked (length ns)) (sym order) (may_be_linked ns hs c.requires.linked)

@@ -18,7 +18,8 @@ join-requires g c =
     let in_s : IsInside m t s = c.section_of.ensures.known s c.in-Some.is in record {
       runs = ap (λ (x : Machine). place_at x.places t) c.set_phase.ensures ∙ in_s.runs (sym c.if-not-may_join.ensures);
       near = λ k is. same_some (sym (ap (λ (x : Machine). x.inside t) (sym c.set_phase.ensures) ∙ is) ∙ in_s.inside);
-      outside = λ b y is. joined_alone m t s in_s b y (ap (λ (x : Machine). x.sections b) (sym c.set_phase.ensures) ∙ is);
+      outside = λ b y is. joined_alone m t s in_s b y (ap (λ (x : Machine). x.sections b) (sym c.set_phase.ensures)
+          ∙ is);
     }
 
 pub returns : goal.returns

@@ -32,7 +32,8 @@ let_out-requires g c =
     ap (option_and_then (λ (s : Section). s.thread)) (sym x.1)
     ∙ (ap (option_and_then (λ (s : Section). s.thread)) (sym c.at.ensures) ∙ (sym c.owner_of-owner.ensures ∙ e)) in
     subst (λ (n : ℕ). t < n) (sym c.put.ensures.seats)
-    (has_seat p l.waiting t x.0.key c.self.invariant (c.self.invariant.0.fit.owner (key % length p.by_bucket) x.0 t x.1 whose))
+    (has_seat p l.waiting t x.0.key c.self.invariant
+    (c.self.invariant.0.fit.owner (key % length p.by_bucket) x.0 t x.1 whose))
 
 pub invariant_of-self : goal.invariant_of-self
 invariant_of-self g c =

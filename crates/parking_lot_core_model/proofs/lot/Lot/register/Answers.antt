@@ -4,7 +4,8 @@ use Rattle.parking_lot_core_model.specs.declared.place.Place.{Place}
 use Rattle.parking_lot_core_model.specs.declared.place.Place.TheVariants.{Running}
 use Rattle.parking_lot_core_model.specs.Buckets.{slot, threads_with, buckets_for}
 use Rattle.parking_lot_core_model.specs.Lists.{lists_of}
-use Rattle.parking_lot_core_model.specs.Machine.{Parts, machine, free_number, register_fault, buckets_wanted, registered}
+use Rattle.parking_lot_core_model.specs.Machine.{Parts, machine, free_number, register_fault, buckets_wanted}
+use Rattle.parking_lot_core_model.specs.Machine.{registered}
 use Rattle.parking_lot_core_model.proofs.Closing.{Owed}
 use Rattle.parking_lot_core_model.proofs.Registering.{again, past, registered_as, register_allows, registered_within}
 use Rattle.parking_lot_core_model.proofs.Registering.{registered_past}

@@ -33,7 +33,8 @@ invariant_of-self g c =
     let seats : length p.by_thread ≤ length c.put.new.self.by_thread.items =
     subst (λ (n : ℕ). length p.by_thread ≤ n) (sym c.put.ensures.seats) (omega arith) in
     kept_so p l.waiting _ _ _ _ c.self.invariant.1 c.put.ensures.count sections c.put.ensures.keys seats
-    (sound_section (machine p) c.args.key f c.self.invariant.0 (λ s. refl) (λ s. refl) (λ s is may. absurd (false≢true may)))
+    (sound_section (machine p) c.args.key f c.self.invariant.0 (λ s. refl) (λ s. refl)
+    (λ s is may. absurd (false≢true may)))
 
 pub returns : goal.returns
 returns g c =

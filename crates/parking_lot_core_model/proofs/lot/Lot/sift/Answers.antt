@@ -58,4 +58,5 @@ returns g c =
     (drop_all c.loop-nth.nth ((machine c.args.self.now).queues c.args.key) (omega arith))
 
 pub take_out-requires : goal.take_out-requires
-take_out-requires g c = subst (λ (m : Machine). IsOpen m c.args.key) (sym c.loop-nth.invariant.1.lists) c.requires.entered
+take_out-requires g c = subst (λ (m : Machine). IsOpen m c.args.key)
+    (sym c.loop-nth.invariant.1.lists) c.requires.entered

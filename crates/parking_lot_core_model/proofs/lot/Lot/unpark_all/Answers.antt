@@ -35,7 +35,8 @@ returns g c =
     ∙ (ap (λ (ws : List Waiter). all_taken o key ws (drop (length q) q)) (take-length q)
     ∙ ap (λ (ws : List Waiter). all_taken o key q ws) (drop-length q))) in
     let done : machine c.finish.new.self ≡ unparked m key q [] c.args.unpark_token = c.finish.ensures
-    ∙ (ap (λ (x : Machine). closed (stored x key c.args.unpark_token) key true) all ∙ closed_taken m key c.args.unpark_token
+    ∙ (ap (λ (x : Machine). closed (stored x key c.args.unpark_token) key true) all
+    ∙ closed_taken m key c.args.unpark_token
     (c.busy.ensures.quiet c.in_default.is) (free_section m key free) q []) in
     unless_done (busy key m) (Ok c.count-count.result) m (machine c.finish.new.self) _ free (ap (λ n. Ok n) count, done)
 
@@ -56,5 +57,6 @@ finish-requires g c =
     let m = machine c.args.self.now in
     let key = c.args.key in
     subst (λ (x : Machine). IsOpen x key)
-    (sym (c.take_all.ensures ∙ ap (λ (x : Machine). all_taken x key (take c.count-count.result (x.queues key)) (drop c.count-count.result (x.queues key))) c.open.ensures))
+    (sym (c.take_all.ensures ∙ ap (λ (x : Machine). all_taken x key (take c.count-count.result (x.queues key))
+    (drop c.count-count.result (x.queues key))) c.open.ensures))
     (is_opened m (opened m None key) None key refl)

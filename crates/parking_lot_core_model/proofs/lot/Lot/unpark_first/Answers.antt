@@ -56,12 +56,14 @@ open-requires g c =
     }
 
 pub take_first-woken-requires : goal.take_first-woken-requires
-take_first-woken-requires g c = is_opened (machine c.args.self.now) (machine c.open.new.self) None c.args.key c.open.ensures
+take_first-woken-requires g c = is_opened (machine c.args.self.now)
+    (machine c.open.new.self) None c.args.key c.open.ensures
 
 pub finish-requires : goal.finish-requires
 finish-requires g c =
     let m = machine c.args.self.now in
     let key = c.args.key in
     subst (λ (x : Machine). IsOpen x key)
-    (sym (c.take_first-woken.ensures.taken ∙ ap (λ (x : Machine). all_taken x key (take 1 (x.queues key)) (drop 1 (x.queues key))) c.open.ensures))
+    (sym (c.take_first-woken.ensures.taken ∙ ap
+    (λ (x : Machine). all_taken x key (take 1 (x.queues key)) (drop 1 (x.queues key))) c.open.ensures))
     (is_opened m (opened m None key) None key refl)

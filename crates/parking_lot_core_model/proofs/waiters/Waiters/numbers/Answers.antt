@@ -13,7 +13,8 @@ returns g c =
     let l = c.self.inside in
     let met : List Spot = filter (λ (s : Spot). s.key == c.args.key) (walk_from c.deref.result.now c.first_of.result) in
     let look : map (λ (s : Spot). s.waiter) met ≡ lists_of (entries l.nodes.items l.heads.items) c.args.key =
-    looked l.heads.items l.nodes.items c.self.invariant c.args.key c.deref-2.result.now c.deref.result.now c.first_of.result
+    looked l.heads.items l.nodes.items c.self.invariant c.args.key c.deref-2.result.now c.deref.result.now
+    c.first_of.result
     c.deref-2.ensures.value c.deref.ensures.value c.first_of.ensures in
     let threads = map (λ (w : Waiter). w.thread) in
     IfOk-weaker c.threads_under.result _ _

@@ -13,9 +13,11 @@ use Rattle.parking_lot_core_model.proofs.waiters.Waiters.take.Goals as goal
 pub returns-in_err-spot-clause-item : goal.returns-in_err-spot-clause-item
 returns-in_err-spot-clause-item g c =
     let l = c.self.inside in
-    let met : List Spot = filter (λ (s : Spot). s.key == c.args.key) (walk_from c.deref-2.result.now c.first_of-first.result) in
+    let met : List Spot = filter (λ (s : Spot). s.key == c.args.key)
+    (walk_from c.deref-2.result.now c.first_of-first.result) in
     let look : map (λ (s : Spot). s.waiter) met ≡ lists_of (entries l.nodes.items l.heads.items) c.args.key =
-    looked l.heads.items l.nodes.items c.self.invariant c.args.key c.deref.result.now c.deref-2.result.now c.first_of-first.result
+    looked l.heads.items l.nodes.items c.self.invariant c.args.key c.deref.result.now c.deref-2.result.now
+    c.first_of-first.result
     c.deref.ensures.value c.deref-2.ensures.value c.first_of-first.ensures in
     let nth = λ (ws : List Waiter). slice_get ws c.args.nth in
     c.from_residual.ensures
@@ -26,9 +28,11 @@ returns-in_err-spot-clause-item g c =
 pub returns-in_err-spot-clause-kept : goal.returns-in_err-spot-clause-kept
 returns-in_err-spot-clause-kept g c =
     let l = c.self.inside in
-    let met : List Spot = filter (λ (s : Spot). s.key == c.args.key) (walk_from c.deref-2.result.now c.first_of-first.result) in
+    let met : List Spot = filter (λ (s : Spot). s.key == c.args.key)
+    (walk_from c.deref-2.result.now c.first_of-first.result) in
     let look : map (λ (s : Spot). s.waiter) met ≡ lists_of (entries l.nodes.items l.heads.items) c.args.key =
-    looked l.heads.items l.nodes.items c.self.invariant c.args.key c.deref.result.now c.deref-2.result.now c.first_of-first.result
+    looked l.heads.items l.nodes.items c.self.invariant c.args.key c.deref.result.now c.deref-2.result.now
+    c.first_of-first.result
     c.deref.ensures.value c.deref-2.ensures.value c.first_of-first.ensures in
     let nth = λ (ws : List Waiter). slice_get ws c.args.nth in
     let none = (ap (option_map (λ (s : Spot). s.waiter)) (sym c.in_err-spot.was ∙ c.nth_under.ensures)
@@ -59,9 +63,11 @@ invariant_of-self g c =
 pub returns-clause-item : goal.returns-clause-item
 returns-clause-item g c =
     let l = c.self.inside in
-    let met : List Spot = filter (λ (s : Spot). s.key == c.args.key) (walk_from c.deref-2.result.now c.first_of-first.result) in
+    let met : List Spot = filter (λ (s : Spot). s.key == c.args.key)
+    (walk_from c.deref-2.result.now c.first_of-first.result) in
     let look : map (λ (s : Spot). s.waiter) met ≡ lists_of (entries l.nodes.items l.heads.items) c.args.key =
-    looked l.heads.items l.nodes.items c.self.invariant c.args.key c.deref.result.now c.deref-2.result.now c.first_of-first.result
+    looked l.heads.items l.nodes.items c.self.invariant c.args.key c.deref.result.now c.deref-2.result.now
+    c.first_of-first.result
     c.deref.ensures.value c.deref-2.ensures.value c.first_of-first.ensures in
     let nth = λ (ws : List Waiter). slice_get ws c.args.nth in
     (ap (option_map (λ (s : Spot). s.waiter)) c.in_ok-spot.ensures
