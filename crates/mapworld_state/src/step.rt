@@ -7,8 +7,8 @@ pub struct Step {
     pub thread: usize,
     /// Whether a release hands its shard over to a waiter, where it stores the lock's word in this step.
     pub fair: bool,
-    /// Whether this is the thread's deadline, and no step that it makes itself: it may come only while the thread sleeps
-    /// in a call that has one. `fair` then changes nothing.
+    /// Whether this is the thread's deadline, and no step that it makes itself: it may come only while the thread
+    /// sleeps in a call that has one. `fair` then changes nothing.
     pub deadline: bool,
 }
 

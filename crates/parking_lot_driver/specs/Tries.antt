@@ -17,18 +17,18 @@ abbrev pub Tries : {C : Type 0} → (C → ActResult → C) → (C → Act) → 
 Tries next asks begun core = (asks (next begun Start) ≡ Load) × ((count : ℕ) × (count ≤ 65)
     × WasToldOf next asks begun count core)
 
--- An act at which a try ends without the lock: any but one on the word and the end that owns, and one that would admit a
--- reader more than the limit.
+-- An act at which a try ends without the lock: any but one on the word and the end that owns, and one that would admit
+-- a reader more than the limit.
 abbrev pub EndsWithout : ℕ → Act → Type 0
 EndsWithout limit act = ((is_on_the_word act ≡ false) × (act ≢ Done Owned)) ⊎ (passes limit act ≡ true)
 
--- A try was admitted: with at most 64 exchanges its core came to the end at which it owns the lock. Nothing opens it but
--- the proofs of those that run tries.
+-- A try was admitted: with at most 64 exchanges its core came to the end at which it owns the lock. Nothing opens it
+-- but the proofs of those that run tries.
 unfoldable pub Admitted : {C : Type 0} → (C → ActResult → C) → (C → Act) → C → Type 0
 Admitted {C} next asks begun = (core : C) × Tries next asks begun core × (asks core ≡ Done Owned)
 
--- A try was refused: its core came to its refusal, or to an act that would admit a reader more than the limit, or it has
--- lost all 64 exchanges. Nothing opens it but the proofs of those that run tries.
+-- A try was refused: its core came to its refusal, or to an act that would admit a reader more than the limit, or it
+-- has lost all 64 exchanges. Nothing opens it but the proofs of those that run tries.
 unfoldable pub Refused : {C : Type 0} → ℕ → (C → ActResult → C) → (C → Act) → C → Type 0
 Refused {C} limit next asks begun = (core : C) × Tries next asks begun core
     × (EndsWithout limit (asks core) ⊎ WasToldOf next asks begun 65 core)

@@ -1,5 +1,6 @@
 -- The acts of the machine: each keeps it fit, and is a step of the rules.
-use Rattle.std.proofs.Common.{◌≡◌, ◌≢◌, ℕ, zero, suc, ◌+◌, ◌*◌, ◌%◌, ◌^◌, ◌<◌, inl, inr, cond, Bool, true, false, List, length, Option}
+use Rattle.std.proofs.Common.{◌≡◌, ◌≢◌, ℕ, zero, suc, ◌+◌, ◌*◌, ◌%◌, ◌^◌, ◌<◌, inl, inr, cond, Bool, true, false}
+use Rattle.std.proofs.Common.{List, length, Option}
 use Rattle.std.proofs.Common.{Some, None, slice_get, slice_set, refl, sym, ap, ◌∙◌, subst, eq-eqb}
 use Rattle.std.proofs.lemmas.Bool.{cases_eq, ne_eqb, both_ways}
 use Rattle.std.proofs.lemmas.List.{length-set}
@@ -58,7 +59,8 @@ module _ (s u : State) (t : ℕ) (c : Call) (told : ActResult) (h : FitsTogether
     (a : OwnAct s u t c told (core_next c.core told) c.spot)
     (lists_same : (key : ℕ) → u.lot.queues key ≡ s.lot.queues key)
     (gives : Gives (core_act c.core) (word_at s c.lock) told)
-    (own : IsOwnAct (core_act c.core)) (around : AfterAct (stance c.core) (core_act c.core) t (entries s c.lock) (entries u c.lock)) (lots : LotFits u)
+    (own : IsOwnAct (core_act c.core)) (around : AfterAct (stance c.core) (core_act c.core) t (entries s c.lock)
+    (entries u c.lock)) (lots : LotFits u)
     (apart : IsAround s u t)
     (none : (k : ℕ) (o : Section) → stance (core_next c.core told) ≡ In k Takes → open_at u (2 * c.lock + k) ≡ Some o
     → passed_of o.phase ≡ 0) where
@@ -190,7 +192,8 @@ load s t c asked h here =
 spin : (s : State) (t : ℕ) (c : Call) → core_act c.core ≡ Act.Spin → Keeps t c s (spun s t c)
 spin s t c asked h here =
     let told = ActResult.Spun true in
-    looks s t c told Act.Spin asked h here tt tt (λ o. (tt, λ b. refl)) (leads_by c.core Act.Spin (word_at s c.lock) told asked tt)
+    looks s t c told Act.Spin asked h here tt tt (λ o. (tt, λ b. refl))
+    (leads_by c.core Act.Spin (word_at s c.lock) told asked tt)
     refl
 
 add : (s : State) (t : ℕ) (c : Call) (by : ℕ) → core_act c.core ≡ Act.Add by → Keeps t c s (added s t c by)

@@ -24,7 +24,8 @@ use Rattle.parking_lot_machine.specs.Rows.{State, call_at, is_by, taken_by}
 use Rattle.parking_lot_machine_calls.specs.Stances.{Looks, TurnsBack, Joins, Joined, Takes, Stores, Tells, Stance, Out}
 use Rattle.parking_lot_machine_calls.specs.Stances.{In, Asleep, stance, taken_count}
 use Rattle.parking_lot_machine_calls.specs.CallActs.{settled_spot, settled}
-use Rattle.parking_lot_machine.specs.RowFits.{SeatedIn, Awaits, IsCounted, IsInside, IsTaken, IsOwed, WakesSome, LotFits}
+use Rattle.parking_lot_machine.specs.RowFits.{SeatedIn, Awaits, IsCounted, IsInside, IsTaken, IsOwed, WakesSome}
+use Rattle.parking_lot_machine.specs.RowFits.{LotFits}
 use Rattle.parking_lot_machine.specs.RowFits.{TakersAreOut}
 
 -- CALLS, BY THREAD

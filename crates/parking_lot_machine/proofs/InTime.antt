@@ -35,7 +35,8 @@ seeks_same (RwPhase.Admits a word) e =
 seeks_same (RwPhase.Appends want) e = absurd cc
 seeks_same q e = e
 
-pub frees_same : (r : Release) (q : RwPhase) → sleeps (upgrade_table.frees_act r q) ≡ true → sleeps (of_rw.act_of q) ≡ true
+pub frees_same : (r : Release) (q : RwPhase) → sleeps (upgrade_table.frees_act r q) ≡ true
+    → sleeps (of_rw.act_of q) ≡ true
 frees_same r (RwPhase.Stores a left) e = absurd cc
 frees_same r (RwPhase.Finishes rest) e =
     absurd (both_ways _ (awake_either (upgrade_table.is_again r) Act.Load (Act.Done answer.Released) refl refl) e)

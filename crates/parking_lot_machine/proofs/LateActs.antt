@@ -1,5 +1,6 @@
 -- The acts of a call whose moment has passed: each keeps the machine fit, and is a step of the rules.
-use Rattle.std.proofs.Common.{◌≡◌, ℕ, ◌+◌, ◌*◌, ◌<◌, ◌≤◌, ◌≢◌, inl, inr, Bool, true, false, List, length, Option, Some, None, slice_get}
+use Rattle.std.proofs.Common.{◌≡◌, ℕ, ◌+◌, ◌*◌, ◌<◌, ◌≤◌, ◌≢◌, inl, inr, Bool, true, false, List, length, Option}
+use Rattle.std.proofs.Common.{Some, None, slice_get}
 use Rattle.std.proofs.Common.{slice_set, sum_by, is_some, refl, sym, ap, ◌∙◌, subst, arith}
 use Rattle.std.specs.Option.{option_and_then}
 use Rattle.std.proofs.lemmas.Bool.{cases_eq}
@@ -28,7 +29,8 @@ use Rattle.parking_lot_machine_calls.specs.declared.open_call.Call.{Call}
 use Rattle.parking_lot_machine.specs.ActLaws.{Acts}
 use Rattle.parking_lot_machine_calls.specs.Kinds.{AsMutex, manner_of, recursive_in, AsRw}
 use Rattle.parking_lot_machine.specs.LateActs.{expired, others_left, quitted, returned, found}
-use Rattle.parking_lot_machine_calls.specs.LateCalls.{comes_late, is_back, is_pending, is_sleeping, late_comes, late_key, late_of}
+use Rattle.parking_lot_machine_calls.specs.LateCalls.{comes_late, is_back, is_pending, is_sleeping, late_comes}
+use Rattle.parking_lot_machine_calls.specs.LateCalls.{late_key, late_of}
 use Rattle.parking_lot_machine_calls.specs.LateCalls.{late_rw_comes, sleeps_in_time, found_as, is_handed}
 use Rattle.parking_lot_machine.specs.LateLaws.{Expires, LateActsAreSteps, expire_step}
 use Rattle.parking_lot_machine_calls.specs.LateRoles.{expiring as expiring_step, expiring_taken}

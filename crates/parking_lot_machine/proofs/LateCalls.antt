@@ -126,7 +126,8 @@ module _ (m : Machine) (t key : ℕ) where
   pub back_own : section_of (returned m t key) t ≡ Some (back_section t key)
   back_own = own_section (returned m t key) t key (back_section t key) back_inside back_open
 
-  module _ (token : UnparkToken) (sleep : Sleep) (taken : place_at m.places t ≡ Some (Taken token key sleep false)) where
+  module _ (token : UnparkToken) (sleep : Sleep) (taken : place_at m.places t
+      ≡ Some (Taken token key sleep false)) where
     -- where it was taken it may say so
     pub back_quits : quit_fault (returned m t key) t ≡ None
     back_quits =

@@ -1,6 +1,7 @@
 -- One whose moment has passed takes itself out of its list: that keeps the machine fit, and is a step of the rules.
 use Rattle.std.proofs.Common.{◌≡◌, ℕ, zero, suc, ◌+◌, ◌*◌, ◌≤◌, ◌<◌, ◌≢◌, ◌==◌, ◌||◌, Bool, true, false, cond}
-use Rattle.std.proofs.Common.{List, [], ◌∷◌, length, remove, Option, Some, None, is_some, slice_get, slice_set, refl, sym, ap}
+use Rattle.std.proofs.Common.{List, [], ◌∷◌, length, remove, Option, Some, None, is_some, slice_get, slice_set, refl}
+use Rattle.std.proofs.Common.{sym, ap}
 use Rattle.std.proofs.Common.{◌∙◌, subst, arith, eqb-true, eq-eqb}
 use Rattle.std.specs.List.{position_or_len}
 use Rattle.std.specs.Option.{option_map}
@@ -330,7 +331,10 @@ module _ (s : State) (t : ℕ) (c : Call) (late : is_back c.core ≡ true) (h : 
                 stood_there (2 * c.lock) first,
                 omega (arith, as_many (2 * c.lock) first, some_left (remove q i) (left_by ∙ f)),
               )
-              (ap Mx (same of_mutexes _ _ _ _ _ _ [] [] refl refl (list_then (2 * c.lock) first) refl)) (tt, quit_on.entered)),
+              (ap Mx (same of_mutexes _ _ _ _ _ _ [] [] refl refl (list_then (2 * c.lock) first) refl)) (
+                tt,
+                quit_on.entered,
+              )),
         )
         go false f = (
           i,
@@ -342,7 +346,10 @@ module _ (s : State) (t : ℕ) (c : Call) (late : is_back c.core ≡ true) (h : 
                 stood_there (2 * c.lock) first,
                 omega (arith, as_many (2 * c.lock) first, none_left (remove q i) (left_by ∙ f)),
               )
-              (ap Mx (same of_mutexes _ _ _ _ _ _ [] [] refl refl (list_then (2 * c.lock) first) refl)) (tt, quit_on.entered)),
+              (ap Mx (same of_mutexes _ _ _ _ _ _ [] [] refl refl (list_then (2 * c.lock) first) refl)) (
+                tt,
+                quit_on.entered,
+              )),
         )
     quit_mutex p e back = absurd cc
 

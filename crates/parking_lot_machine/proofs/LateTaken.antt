@@ -1,6 +1,7 @@
 -- One whose moment has passed and that was taken comes back and finds that out. That is two steps of the rules: its
 -- taker drops it from those that it is to wake, and it enters the section. The machine stays fit.
-use Rattle.std.proofs.Common.{◌≡◌, ◌≢◌, ◌≤◌, ◌<◌, ℕ, ◌+◌, ◌*◌, ◌==◌, inl, inr, Bool, true, false, cond, List, length, Option}
+use Rattle.std.proofs.Common.{◌≡◌, ◌≢◌, ◌≤◌, ◌<◌, ℕ, ◌+◌, ◌*◌, ◌==◌, inl, inr, Bool, true, false, cond, List, length}
+use Rattle.std.proofs.Common.{Option}
 use Rattle.std.proofs.Common.{Some, None, is_some, slice_get, slice_set, refl, sym, ap, ◌∙◌, subst, arith}
 use Rattle.std.specs.List.{position_or_len}
 use Rattle.std.specs.Option.{option_and_then}
@@ -54,7 +55,8 @@ use Rattle.parking_lot_machine.specs.RowSteps.{IsMade, IsMoveOf, IsMutexFound, I
 use Rattle.parking_lot_machine.specs.Rows.{State, call_at, hold_at, is_for, mutex_at, queue_at, rw_lock_at}
 use Rattle.parking_lot_machine.specs.Rows.{taken_by, word_at}
 use Rattle.parking_lot_machine_calls.specs.CallRoles.{late_role, mark_of, mutex_spot}
-use Rattle.parking_lot_machine_calls.specs.Stances.{Asleep, In, Out, Stance, Takes, Tells, core_act, has_begun, pending_from}
+use Rattle.parking_lot_machine_calls.specs.Stances.{Asleep, In, Out, Stance, Takes, Tells, core_act, has_begun}
+use Rattle.parking_lot_machine_calls.specs.Stances.{pending_from}
 use Rattle.parking_lot_machine_calls.specs.Stances.{sign, sleeper_asleep, stance, taken_count}
 use Rattle.parking_lot_machine.specs.Rounds.{rounds}
 use Rattle.parking_lot_machine.proofs.Calling.{call-here, call-elsewhere, calls-change, slot}

@@ -1,5 +1,6 @@
 -- Each act keeps what fits of the lot.
-use Rattle.std.proofs.Common.{◌≡◌, ◌<◌, ℕ, ◌+◌, ◌%◌, ◌^◌, ◌==◌, ◌⊎◌, inl, inr, Bool, true, false, cond, bit_and, [], remove}
+use Rattle.std.proofs.Common.{◌≡◌, ◌<◌, ℕ, ◌+◌, ◌%◌, ◌^◌, ◌==◌, ◌⊎◌, inl, inr, Bool, true, false, cond, bit_and, []}
+use Rattle.std.proofs.Common.{remove}
 use Rattle.std.proofs.Common.{Option, Some, None, length, slice_get, slice_set, refl, sym, ap, ◌∙◌, subst, arith}
 use Rattle.std.specs.List.{position_or_len}
 use Rattle.std.proofs.lemmas.Bool.{eqb-false, eqb-true}
@@ -24,7 +25,8 @@ use Rattle.parking_lot_machine_calls.specs.Stances.{sign}
 use Rattle.parking_lot_machine_calls.specs.StanceLaws.{Counts, IsOver, LeavesFor}
 use Rattle.parking_lot_core_model.specs.Machine.{closed}
 use Rattle.parking_lot_core_model.specs.Sound.{Sound}
-use Rattle.parking_lot_machine.specs.RowActs.{key_in, with_call, with_word, with_lot, settles, loaded, exchanged, added, masked}
+use Rattle.parking_lot_machine.specs.RowActs.{key_in, with_call, with_word, with_lot, settles, loaded, exchanged}
+use Rattle.parking_lot_machine.specs.RowActs.{added, masked}
 use Rattle.parking_lot_machine.specs.RowActs.{spun, entered, checked, appended, took, took_nobody, told_all, left, woke}
 use Rattle.parking_lot_machine.specs.RowActs.{woke_nobody, answered, begun}
 use Rattle.parking_lot_machine_calls.specs.CallActs.{hears, key_of, told_of, joins}
@@ -78,7 +80,8 @@ adds s t c by h here is =
 spins : (s : State) (t : ℕ) (c : Call) → Keeps s t c Act.Spin (spun s t c)
 spins s t c h here is = stays_out s t c (seen.Spun true) h here (leads_by c.core Act.Spin 0 (seen.Spun true) is tt)
 
-enters : (s : State) (t : ℕ) (c : Call) (k : ℕ) → open_at s (key_of c k) ≡ None → Keeps s t c (Act.Enter k) (entered s t c k)
+enters : (s : State) (t : ℕ) (c : Call) (k : ℕ) → open_at s (key_of c k) ≡ None
+    → Keeps s t c (Act.Enter k) (entered s t c k)
 enters s t c k free h here is =
     let x = leads_by c.core (Act.Enter k) 0 seen.Entered is tt in
     entered_fits s t c h here k free (entered_sound s t c h here k x.0 free) x.0 x.1 x.2

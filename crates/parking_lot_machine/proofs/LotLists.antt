@@ -232,7 +232,8 @@ module _ (t : ℕ) (token : UnparkToken) (place : Option Place) (secs secs' : �
         subst (SaidIn x.1) (sym (cond-false (by == t) (told_of token) WakeResult.Nothing e)) x.4,
       ))
 
-  settled_lies : (at : QueuePosition) → IsAt at place secs key → IsAt (settled_spot t (told_of token) at) place secs' key
+  settled_lies : (at : QueuePosition) → IsAt at place secs key
+      → IsAt (settled_spot t (told_of token) at) place secs' key
   settled_lies QueuePosition.Listed h = h
   settled_lies (QueuePosition.Off by WakeResult.Nothing) h = (h.0, h.1, told_now by h.0 h.2)
   settled_lies (QueuePosition.Off by WakeResult.TryAgain) h = (h.0, h.1, said_on by WakeResult.TryAgain some h.0 h.2)

@@ -1,6 +1,7 @@
 -- Taking a waiter off its list keeps what fits of the lot.
 use Rattle.std.proofs.Common.{◌≡◌, ◌≤◌, ◌<◌, ℕ, ◌+◌, ◌*◌, ◌==◌, ◌⊎◌, inl, inr, false, List, [], ◌∷◌, length, remove}
-use Rattle.std.proofs.Common.{Option, Some, None, slice_get, slice_set, count_by, refl, sym, ap, ◌∙◌, subst, arith, eq-eqb}
+use Rattle.std.proofs.Common.{Option, Some, None, slice_get, slice_set, count_by, refl, sym, ap, ◌∙◌, subst, arith}
+use Rattle.std.proofs.Common.{eq-eqb}
 use Rattle.std.specs.Option.{option_map, option_map_or}
 use Rattle.std.proofs.lemmas.Bool.{ne_eqb, eqb-false}
 use Rattle.parking_lot_core_model.specs.declared.parking.ParkToken.{ParkToken}
@@ -247,7 +248,8 @@ module _ (s : State) (t : ℕ) (c : Call) (h : LotFits s) (here : call_at s t �
             (seat_of s h v z.call (Asleep k w.token) z.there z.asleep).1,
           )))))
           (λ f. subst (λ (d : Option Call). SeatedIn on x d) (sym (call_other x e f))
-          (seats_still s t c takes h here (key_of c k) o o' seat.1 seat.2 seat.2 s.lot.sleeps took_queues u.lot.places x e
+          (seats_still s t c takes h here (key_of c k) o o' seat.1 seat.2 seat.2 s.lot.sleeps took_queues u.lot.places
+          x e
           (place_other x f)
           (λ j token y by said by_t at' asleep off' in_it. still_said o (phase.Taking nth) said seat.4 refl in_it)
           (h.seated x (subst (λ (n : ℕ). x < n) took_length within))))))

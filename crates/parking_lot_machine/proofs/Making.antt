@@ -67,7 +67,8 @@ module _ {C R L : Type 0} (K : Kind C R L) (s u : State) (t j : ℕ) (there : Is
   shown_after = ap (λ ks. any_lock (slice_get ks j) u j) others.kinds ∙ K.shows u j (slice_get s.kinds j) k
 
   pub made : (step : AnyStep) → (any_rules (recursive_in s.kinds)).allowed j t step (K.any (shown K s j))
-      → K.any (shown K u j) ≡ any_after t step (K.any (shown K s j)) → Crossed (any_crossing step) t (entries s j) (entries u j) → IsMade j t step s u
+      → K.any (shown K u j) ≡ any_after t step (K.any (shown K s j))
+      → Crossed (any_crossing step) t (entries s j) (entries u j) → IsMade j t step s u
   made step allowed here crossed = record {
     allowed = subst ((any_rules (recursive_in s.kinds)).allowed j t step) (sym (K.shows s j (slice_get s.kinds j) k))
         allowed;
@@ -199,7 +200,8 @@ TellsOf m us v = Unit {0}
 
 pub mutex_goes : (s u : State) (t j v : ℕ) (us : List ℕ) (n : mutex.Mutex) (m : of_mutex.Move) → IsThere j (call_at s t)
     → Elsewhere j s u → manner_of (slice_get s.kinds j) ≡ Some AsMutex
-    → mutex_laws.LeadsBy m v t (mutex_at s j) n → mutex_at u j ≡ n → Crossed (mutex_laws.move_crossing m) t (entries s j) (entries u j) → TellsOf m us v → IsMutexMove m us j t s u
+    → mutex_laws.LeadsBy m v t (mutex_at s j) n → mutex_at u j ≡ n
+    → Crossed (mutex_laws.move_crossing m) t (entries s j) (entries u j) → TellsOf m us v → IsMutexMove m us j t s u
 mutex_goes s u t j v us n of_mutex.Stays there others k leads here crossed tells = quiet of_mutexes s u t j there others
     k (here ∙ leads) crossed.1
 mutex_goes s u t j v us n (of_mutex.Makes x) there others k leads here crossed tells =

@@ -22,7 +22,8 @@ use Rattle.parking_lot_machine_calls.specs.Kinds.{AsMutex, AsRw, manner_of, Mann
 use Rattle.parking_lot_machine_calls.specs.declared.seat.LatePhase.{LatePhase}
 use Rattle.parking_lot_machine_calls.specs.declared.seat.Core.{Core}
 use Rattle.parking_lot_machine_calls.specs.declared.open_call.Call.{Call}
-use Rattle.parking_lot_machine.specs.Rows.{State, word_at, taken_by, rw_lock_at, mutex_at, bucket, entered_in, lock_as, lock_at}
+use Rattle.parking_lot_machine.specs.Rows.{State, word_at, taken_by, rw_lock_at, mutex_at, bucket, entered_in}
+use Rattle.parking_lot_machine.specs.Rows.{lock_as, lock_at}
 use Rattle.parking_lot_machine_calls.specs.CallRoles.{first_of_all, mutex_spot, mutex_role}
 use Rattle.parking_lot_machine_calls.specs.Stances.{has_begun, core_act, core_next, late_act, late_stance, mutex_stance}
 use Rattle.parking_lot_machine_calls.specs.Stances.{sign, stance, Stance, mutex_taken}
@@ -181,7 +182,8 @@ module _ (s u : State) (t : ℕ) (h : FitsTogether s) where
   own_late : (c : Call) (p : LatePhase) (told : ActResult) → ((key : ℕ) → u.lot.queues key ≡ s.lot.queues key)
       → c.core ≡ Core.Late p → OwnAct s u t c told (core_next (Core.Late p) told) c.spot
       → Gives (late_act p) (word_at s c.lock) told → IsOwnAct (late_act p)
-      → AfterAct (late_stance p) (late_act p) t (entries s c.lock) (entries u c.lock) → Fitted s u t c told (Core.Late p)
+      → AfterAct (late_stance p) (late_act p) t (entries s c.lock) (entries u c.lock)
+      → Fitted s u t c told (Core.Late p)
   own_late c LatePhase.Leaves ActResult.Made lists_same e a gives own around =
       let kind_is = subst (IsOfKind (slice_get s.kinds c.lock)) e (h.rules.kinds t c a.here) in
       let word : word_at u c.lock ≡ word_at s c.lock = a.word
@@ -241,7 +243,8 @@ module _ (s u : State) (t : ℕ) (h : FitsTogether s) where
       resume_writes by true w = refl
       resume_writes by false w = refl
 
-      resume_leaves : (by : ℕ) (b : Bool) → Crossed (mutex_crossing (mutex.Alone mutex.Leave)) t (entries s c.lock) (entries u c.lock)
+      resume_leaves : (by : ℕ) (b : Bool) → Crossed (mutex_crossing (mutex.Alone mutex.Leave)) t (entries s c.lock)
+          (entries u c.lock)
           → Crossed (mutex_crossing (mutex.Alone (resume_step b by))) t (entries s c.lock) (entries u c.lock)
       resume_leaves by true x = x
       resume_leaves by false x = x
@@ -260,7 +263,8 @@ module _ (s u : State) (t : ℕ) (h : FitsTogether s) where
   module _ (c : Call) (told : ActResult) (lists_same : (key : ℕ) → u.lot.queues key ≡ s.lot.queues key) where
     own_rw : (k : RwCall) → c.core ≡ rw_call k → OwnAct s u t c told (core_next (rw_call k) told) c.spot
         → Gives (core_act (rw_call k)) (word_at s c.lock) told → IsOwnAct (core_act (rw_call k))
-        → AfterAct (stance (rw_call k)) (core_act (rw_call k)) t (entries s c.lock) (entries u c.lock) → Fitted s u t c told (rw_call k)
+        → AfterAct (stance (rw_call k)) (core_act (rw_call k)) t (entries s c.lock) (entries u c.lock)
+        → Fitted s u t c told (rw_call k)
     own_rw k e b gives own around =
         let us = taken_by s.wakes t in
         let x = word_at s c.lock in
@@ -271,9 +275,11 @@ module _ (s u : State) (t : ℕ) (h : FitsTogether s) where
         let heard = call_hears k x told (recursive_in s.kinds c.lock) c.others
         (subst (λ (y : Core). has_begun y ≡ true) e (h.rules.begun t c a.here).begun) ready own gives in
         let leads = rw_leads (recursive_in s.kinds c.lock) (rw_lock_at s c.lock) t c.others c.spot us k x told
-        (meets s h t c k e a.here) heard (finds (stance (rw_call k)) (core_act (rw_call k)) c.lock own around kind_is) a.listed
+        (meets s h t c k e a.here) heard (finds (stance (rw_call k)) (core_act (rw_call k)) c.lock own around kind_is)
+        a.listed
         (entries s c.lock) (entries u c.lock)
-        (call_own t (entries s c.lock) (entries u c.lock) (recursive_in s.kinds c.lock) c.others us k x told heard ready own around) in
+        (call_own t (entries s c.lock) (entries u c.lock)
+        (recursive_in s.kinds c.lock) c.others us k x told heard ready own around) in
         let well = rw_hears s h t c k e a.here told heard (own_wants x k told own gives) u.lot.queues
         (call_learns k told own (u.lot.queues (2 * c.lock)) (u.lot.queues (2 * c.lock + 1))) in (
           as_move k c.others us told c.lock t s u
@@ -284,7 +290,8 @@ module _ (s u : State) (t : ℕ) (h : FitsTogether s) where
               ∙ same of_rws _ _ _ _ _ _ _ _ refl refl (ap threads_of (lists_same (2 * c.lock)))
               (ap threads_of (lists_same (2 * c.lock + 1))))
               leads.1 (own_some (call_move c.others us k told) us t (entries s c.lock) (entries u c.lock)
-              (call_own t (entries s c.lock) (entries u c.lock) (recursive_in s.kinds c.lock) c.others us k x told heard ready own
+              (call_own t (entries s c.lock) (entries u c.lock)
+              (recursive_in s.kinds c.lock) c.others us k x told heard ready own
               around))),
           well.0,
           well.1,
@@ -367,7 +374,8 @@ module _ (s u : State) (t : ℕ) (h : FitsTogether s) where
     own_so (Core.Late p) e = own_late c p told lists_same e
 
     pub own_fits : OwnAct s u t c told (core_next c.core told) c.spot → Gives (core_act c.core) (word_at s c.lock) told
-        → IsOwnAct (core_act c.core) → AfterAct (stance c.core) (core_act c.core) t (entries s c.lock) (entries u c.lock) → RulesFit u
+        → IsOwnAct (core_act c.core) → AfterAct (stance c.core) (core_act c.core) t (entries s c.lock)
+        (entries u c.lock) → RulesFit u
         × Goes t c told s u
     own_fits a gives own around =
         rules_own s u t c told c.spot a h

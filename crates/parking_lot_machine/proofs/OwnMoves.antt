@@ -51,15 +51,18 @@ own_some (Makes k) us t old new h = tt
 own_some m us t old new h = absurd h
 
 module _ (t : ℕ) (old new : Entries) where
-  drains : (d : Draining) (b : Bool) → Crossed crossings.Stays t old new → OwnMove (cond b Stays (Makes (plain.Drain false d.woken))) t old new
+  drains : (d : Draining) (b : Bool) → Crossed crossings.Stays t old new
+      → OwnMove (cond b Stays (Makes (plain.Drain false d.woken))) t old new
   drains d true h = h
   drains d false h = h
 
-  admits : (n : ℕ) (q : LockMode) (woken : Bool) → Crossed crossings.Stays t old new → OwnMove (Makes (admission n q woken)) t old new
+  admits : (n : ℕ) (q : LockMode) (woken : Bool) → Crossed crossings.Stays t old new
+      → OwnMove (Makes (admission n q woken)) t old new
   admits n (LockMode.Shared recursive) woken h = h
   admits n LockMode.Exclusive woken h = h
 
-  try_admits : (n : ℕ) (q : LockMode) → Crossed crossings.Stays t old new → OwnMove (Makes (try_admission n q)) t old new
+  try_admits : (n : ℕ) (q : LockMode) → Crossed crossings.Stays t old new
+      → OwnMove (Makes (try_admission n q)) t old new
   try_admits n (LockMode.Shared recursive) h = h
   try_admits n LockMode.Exclusive h = h
 
@@ -68,11 +71,13 @@ module _ (t : ℕ) (old new : Entries) where
   checks q woken true h = h
   checks q woken false h = h
 
-  checks2 : (woken : Bool) (b : Bool) → Crossed crossings.Stays t old new → OwnMove (cond b (Makes (plain.Check2 false woken)) Stays) t old new
+  checks2 : (woken : Bool) (b : Bool) → Crossed crossings.Stays t old new
+      → OwnMove (cond b (Makes (plain.Check2 false woken)) Stays) t old new
   checks2 woken true h = h
   checks2 woken false h = h
 
-  unshares : (n : ℕ) (b : Bool) → Crossed crossings.Stays t old new → OwnMove (Makes (cond b (plain.UnshareLast n) (plain.Unshare n))) t old new
+  unshares : (n : ℕ) (b : Bool) → Crossed crossings.Stays t old new
+      → OwnMove (Makes (cond b (plain.UnshareLast n) (plain.Unshare n))) t old new
   unshares n true h = h
   unshares n false h = h
 

@@ -83,7 +83,8 @@ WasCalled s u t = (v : ℕ) (d : Call) (k : ℕ) → v ≢ t → call_at u v ≡
 
 abbrev pub HasPassed : State → ℕ → Type 0
 HasPassed u t = (d : Call) (k : ℕ) (o : Section) → call_at u t ≡ Some d → stance d.core ≡ In k Takes
-    → open_at u (2 * d.lock + k) ≡ Some o → ArePassed (asks (core_act d.core)) (u.lot.queues (2 * d.lock + k)) (passed_of o.phase)
+    → open_at u (2 * d.lock + k) ≡ Some o → ArePassed (asks (core_act d.core)) (u.lot.queues (2 * d.lock + k))
+    (passed_of o.phase)
 
 pub passes_after : (s u : State) (t : ℕ) → LotFits u → PassesFit s → IsAround s u t → WasCalled s u t → HasPassed u t
     → PassesFit u

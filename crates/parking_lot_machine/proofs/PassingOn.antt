@@ -45,7 +45,8 @@ use Rattle.parking_lot_machine.proofs.Passing.{passes_after, skip_on}
 use Rattle.parking_lot_machine.proofs.RwTaking.{scans_go_by_tokens}
 use Rattle.parking_lot_machine_calls.proofs.Stancing.{takings_count}
 use Rattle.parking_lot_machine.proofs.TakeJoins.{late_takes}
-use Rattle.parking_lot_machine.proofs.TakeParts.{took_told, the_sleeper, taker_after, sleeper_after, others_after, took_on}
+use Rattle.parking_lot_machine.proofs.TakeParts.{took_told, the_sleeper, taker_after, sleeper_after, others_after}
+use Rattle.parking_lot_machine.proofs.TakeParts.{took_on}
 use Rattle.parking_lot_machine_calls.proofs.Lying.{tardy_takes}
 
 abbrev RwNext : Scanning → ℕ → Bool → RwPhase

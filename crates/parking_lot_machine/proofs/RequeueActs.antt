@@ -24,7 +24,8 @@ use Rattle.parking_lot_machine.specs.Ranks.{Sees, Shut, mutex_steps, steps_left}
 use Rattle.parking_lot_machine.specs.Requeues.{IsAttended, IsRousedIn, IsTakenIn, filed, pull_run, requeue_run}
 use Rattle.parking_lot_machine.specs.Requeues.{retrying_call, roused, roused_in, sleeping_call, taken_in}
 use Rattle.parking_lot_machine.specs.RowFits.{FitsTogether, LotFits, PassesFit, SeatedIn}
-use Rattle.parking_lot_machine.specs.Rows.{State, bucket, call_at, entered_in, first_key, hold_at, mutex_at, mutex_word_of, open_at}
+use Rattle.parking_lot_machine.specs.Rows.{State, bucket, call_at, entered_in, first_key, hold_at, mutex_at}
+use Rattle.parking_lot_machine.specs.Rows.{mutex_word_of, open_at}
 use Rattle.parking_lot_machine.specs.Rows.{queue_at, word_at}
 use Rattle.parking_lot_machine_calls.specs.CallRoles.{owns_mutex}
 use Rattle.parking_lot_machine.proofs.Acting.{word-elsewhere, word-here}
@@ -59,7 +60,8 @@ module _ (s : State) (v lock : ℕ) (timed : Bool) (h : FitsTogether s) (low : v
 
     -- whom others' sections have passed: they are as they were, and so are their lists
     stays_passed : (u : State) (p : MutexPhase) → LotFits u → (d : Call) → call_at u v ≡ Some d
-        → ((x : ℕ) → x ≢ v → call_at u x ≡ call_at s x) → ((k : ℕ) → stances.stance d.core ≡ stances.In k stances.Takes → ⊥)
+        → ((x : ℕ) → x ≢ v → call_at u x ≡ call_at s x)
+        → ((k : ℕ) → stances.stance d.core ≡ stances.In k stances.Takes → ⊥)
         → u.lot.buckets ≡ s.lot.buckets → ((b : ℕ) → u.lot.sections b ≡ s.lot.sections b)
         → ((key : ℕ) → (key == first_key lock) ≡ false → u.lot.queues key ≡ s.lot.queues key) → PassesFit u
     stays_passed u p lots d here there never buckets sections queues =
@@ -109,7 +111,8 @@ module _ (s : State) (v lock : ℕ) (timed : Bool) (h : FitsTogether s) (low : v
 
     first_then : (i : ℕ) → i ≢ lock → length (u.lot.queues (first_key i)) ≡ length (s.lot.queues (first_key i))
     first_then i ne = let same : 2 * i ≡ 2 * i + 0 = omega arith in ap (λ k. length (u.lot.queues k)) same
-        ∙ ap length (queues_then (2 * i + 0) (ne_eqb (2 * i + 0) (first_key lock) (λ e. ne (omega (arith, e))))) ∙ sym (ap (λ k. length (s.lot.queues k)) same)
+        ∙ ap length (queues_then (2 * i + 0) (ne_eqb (2 * i + 0) (first_key lock) (λ e. ne (omega (arith, e)))))
+        ∙ sym (ap (λ k. length (s.lot.queues k)) same)
 
     bits_then : mutex_word_of new_word ≡ record (mutex_word_of (word_at s lock)) { parked = 1 }
     bits_then = let w = word_at s lock in let a : (w % 2 + 2) % 2 ≡ w % 2 = omega arith in
@@ -234,7 +237,8 @@ module _ (s : State) (v lock : ℕ) (timed : Bool) (h : FitsTogether s) (low : v
       attended = subst (λ (n : mutex.Mutex). 1 ≤ n.word.locked + mutex.total mutex.Called n.roles) (sym roused_here)
           (roused_attended (mutex_at s lock) v (was_sound s v lock h low alone kind owns free) there);
       runs = λ by ne within none.
-          subst (λ (n : mutex.Mutex). mutex.Runs (mutex_at s lock) (pull_run by (owns_mutex (hold_at s by lock)) v []) n)
+          subst (λ (n : mutex.Mutex). mutex.Runs (mutex_at s lock)
+          (pull_run by (owns_mutex (hold_at s by lock)) v []) n)
           (sym roused_here)
           ((runs (mutex_at s lock) by (owns_mutex (hold_at s by lock))).unlocked v []
           (may_come s v lock h low alone kind owns free by within none) (λ e. ne (sym e)) there tt);

@@ -1,5 +1,6 @@
 -- What it adds to the steps that are left to take a waiter into the list of a mutex, or to have it try again.
-use Rattle.std.proofs.Common.{not, ◌≡◌, ◌≢◌, ℕ, ◌+◌, ◌*◌, ◌<◌, ◌≤◌, inl, inr, ◌==◌, Bool, true, false, cond, length, Option}
+use Rattle.std.proofs.Common.{not, ◌≡◌, ◌≢◌, ℕ, ◌+◌, ◌*◌, ◌<◌, ◌≤◌, inl, inr, ◌==◌, Bool, true, false, cond, length}
+use Rattle.std.proofs.Common.{Option}
 use Rattle.std.proofs.Common.{Some, None, slice_get, slice_set, sum_by, refl, sym, ap, ◌∙◌, subst, arith}
 use Rattle.std.proofs.lemmas.Bool.{cases_eq}
 use Rattle.std.proofs.lemmas.List.{length-set}
@@ -39,13 +40,15 @@ word_costs : (p : MutexPhase) (word first word' first' : ℕ) (shut : Shut) → 
     → mutex_rounds p ≤ 10 → mutex_steps (Sees word' first' shut) p ≤ mutex_steps (Sees word first shut) p + 25
 word_costs (MutexPhase.Locks a waiters) word first word' first' shut free few = either_way (word == 2 * bit waiters)
     (word' == 2 * bit waiters) _ _ 25 (omega (arith, parks free)) (omega (arith, few, parks free))
-word_costs (MutexPhase.Parks a) word first word' first' shut free few = either_way (word == 1) (word' == 1) _ _ 25 (omega (arith, parks free))
+word_costs (MutexPhase.Parks a) word first word' first' shut free few =
+    either_way (word == 1) (word' == 1) _ _ 25 (omega (arith, parks free))
     (omega (arith, few, parks free))
 word_costs (MutexPhase.Enters woken) word first word' first' shut free few = either_way (word == 3) (word' == 3) _ _ 25
     (omega (arith, parks free)) (omega (arith, parks free))
 word_costs (MutexPhase.Checks woken) word first word' first' shut free few = either_way (word == 3) (word' == 3) _ _ 25
     (omega arith) (omega (arith, parks free))
-word_costs (MutexPhase.TryLocks waiters left) word first word' first' shut free few = either_way (word == 2 * bit waiters)
+word_costs (MutexPhase.TryLocks waiters left) word first word' first' shut free few =
+    either_way (word == 2 * bit waiters)
     (word' == 2 * bit waiters) _ _ 25 (omega arith) (omega (arith, parks free))
 word_costs p word first word' first' shut free few = omega arith
 

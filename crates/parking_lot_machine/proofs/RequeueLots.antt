@@ -67,7 +67,8 @@ module _ (s : State) (v lock : ℕ) (timed : Bool) (h : LotFits s) (low : v < le
   s3 = entered s2 v (call_in (MutexPhase.Enters false)) 0
 
   abbrev s4 : State
-  s4 = with_lot (with_call s3 v (call_in MutexPhase.Appends)) (in_phase s3.lot (key_of (call_in (MutexPhase.Checks false)) 0) phase.Valid)
+  s4 = with_lot (with_call s3 v (call_in MutexPhase.Appends))
+      (in_phase s3.lot (key_of (call_in (MutexPhase.Checks false)) 0) phase.Valid)
 
   abbrev s5 : State
   s5 = appended s4 v (call_in MutexPhase.Appends) (key_of (call_in MutexPhase.Appends) 0) parked
@@ -111,7 +112,8 @@ module _ (s : State) (v lock : ℕ) (timed : Bool) (h : LotFits s) (low : v < le
 
   abbrev checked_at : ℕ → State
   checked_at w = let c = hears (call_in (MutexPhase.Checks false)) (seen.Word w) in
-      with_lot (with_call s3 v c) (in_phase s3.lot (key_of (call_in (MutexPhase.Checks false)) 0) (cond (joins (stance c.core)) phase.Valid
+      with_lot (with_call s3 v c) (in_phase s3.lot (key_of (call_in (MutexPhase.Checks false)) 0)
+      (cond (joins (stance c.core)) phase.Valid
       phase.Invalid))
 
   h4 : LotFits s4

@@ -101,4 +101,7 @@ none_entered (Some x) e = absurd (both_ways false refl e)
 -- one that may be woken may begin to ask, where no section is open in the bucket of the list
 pub rouses_by : (s : State) (v lock : ℕ) → may_rouse_in s v lock ≡ true → (may_begin s v lock LockCall.Lock ≡ true)
     × (open_at s (first_key lock) ≡ None)
-rouses_by s v lock e = let b = both (may_begin s v lock LockCall.Lock) _ e in (b.0, none_entered (open_at s (first_key lock)) b.1)
+rouses_by s v lock e = let b = both (may_begin s v lock LockCall.Lock) _ e in (
+  b.0,
+  none_entered (open_at s (first_key lock)) b.1,
+)

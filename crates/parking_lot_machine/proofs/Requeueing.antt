@@ -23,7 +23,8 @@ use Rattle.parking_lot_machine_calls.specs.Kinds.{AsMutex, manner_of}
 use Rattle.parking_lot_machine.specs.Requeues.{MayCome, lock_ask}
 use Rattle.parking_lot_machine.specs.Rounds.{IsUnderWay}
 use Rattle.parking_lot_machine.specs.RowFits.{FitsTogether, RulesFit, WakesFit, is_away, mutex_knows}
-use Rattle.parking_lot_machine.specs.Rows.{State, bucket, call_at, entered_in, family, first_key, hold_at, lock_at, lock_as, mutex_at}
+use Rattle.parking_lot_machine.specs.Rows.{State, bucket, call_at, entered_in, family, first_key, hold_at, lock_at}
+use Rattle.parking_lot_machine.specs.Rows.{lock_as, mutex_at}
 use Rattle.parking_lot_machine.specs.Rows.{open_at, taken_by}
 use Rattle.parking_lot_machine.specs.Rows.{word_at}
 use Rattle.parking_lot_machine_calls.specs.CallRoles.{owns_mutex, mutex_role}

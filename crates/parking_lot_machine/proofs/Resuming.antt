@@ -47,7 +47,8 @@ resumed m v token key sleep g tells result new done =
 
 -- the same of both calls: it is woken by its mark, and then goes on
 pub rouses : (m n : Machine) (v mark : ℕ)
-    (told : (token : UnparkToken) × (key : ℕ) × (sleep : Sleep) × (place_at m.places v ≡ Some (Taken token key sleep false))
+    (told : (token : UnparkToken) × (key : ℕ) × (sleep : Sleep)
+    × (place_at m.places v ≡ Some (Taken token key sleep false))
     × (sleep.late ≡ false) × (sleep.mark ≡ mark)) (woke : Bool)
     → woke ≡ option_map_or (is_due mark) (place_at m.places v) false → n ≡ cond woke (changed_at roused m v) m
     → (tells : ℕ → Bool → Type 0) (result : Result ParkResult LotFault) (new : Machine)

@@ -138,8 +138,22 @@ is_due s t c h here out some =
     let x = first_there t s.wakes some in
     let by_t = first_is_by t s.wakes x.0 x.1 in
     let w : IsTaken s x.0 = h.lots.woken (position_or_len (is_by t) s.wakes) x.0 x.1 in
-    let p = due_place s t c h.lots here x.0 w.call x.1 by_t w.here out in
-    (x.0, w.call, p.0, record { first = x.1; there = w.here; key = p.1; sleep = p.2; place = p.3; late = p.4 }, by_t, p.5)
+    let p = due_place s t c h.lots here x.0 w.call x.1 by_t w.here out in (
+      x.0,
+      w.call,
+      p.0,
+      record {
+        first = x.1;
+        there = w.here;
+        key = p.1;
+        sleep = p.2;
+        place = p.3;
+        late =
+            p.4;
+      },
+      by_t,
+      p.5,
+    )
 
 out_asleep : {key : ℕ} {park : ParkToken} → Out ≡ Asleep key park → ⊥
 out_asleep e = cc

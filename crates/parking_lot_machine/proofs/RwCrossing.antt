@@ -9,7 +9,8 @@ use Rattle.parking_lot_core_model.specs.declared.parking.ParkToken.{ParkToken}
 use Rattle.parking_lot_core_model.specs.declared.place.Waiter.{Waiter}
 use Rattle.parking_lot_rules.specs.Classes.{Inside1, Inside2, weight, total, weighs, bit}
 use Rattle.parking_lot_rules.specs.Lock.{IsSound}
-use Rattle.parking_lot_rules.specs.Family.{Family, SoundFamilyOf, Key, First, Second, section, Crossing, Comes, Goes, key}
+use Rattle.parking_lot_rules.specs.Family.{Family, SoundFamilyOf, Key, First, Second, section, Crossing, Comes, Goes}
+use Rattle.parking_lot_rules.specs.Family.{key}
 use Rattle.parking_lot_rules.specs.Family.{crossing}
 use Rattle.parking_lot_rules.specs.Family as crossings
 use Rattle.parking_lot_rules.specs.Any.{AnySound, any_inside}
@@ -129,7 +130,8 @@ free_sections_are_empty bucket f i l sound is = (none First fits.inside1, none S
 
     none : (k : Key) → total (section k) l.roles ≤ 1 → f.entered (bucket (key i k)) ≡ None
         → NobodyIs (section k) l.roles
-    none k most free u r at = one_at_most (weight (section k) r) (omega (arith, most, total-at l.roles u r at (section k)))
+    none k most free u r at = one_at_most (weight (section k) r)
+        (omega (arith, most, total-at l.roles u r at (section k)))
         (λ one. none-some u
         (sym free ∙ sound.entered i k u (ap (λ y. any_inside y k u) is ∙ ap (weighs (section k)) at ∙ one)))
 

@@ -15,7 +15,8 @@ use Rattle.parking_lot_protocol.specs.declared.rw_phase.RwPhase.{RwPhase}
 use Rattle.parking_lot_protocol.specs.RwTable.{is_parked, is_writer_parked, is_written, is_upgradable, has_readers}
 use Rattle.parking_lot_protocol.specs.RwTable.{has_room, is_barred, is_admitted, is_tried, count_of, act_of, next_phase}
 use Rattle.parking_lot_protocol.specs.RwTable.{begins}
-use Rattle.parking_lot_machine.specs.Ranks.{View, Sees, Shut, wake, scan, comes_after, drains, rw_asks, rw_ends, rw_steps}
+use Rattle.parking_lot_machine.specs.Ranks.{View, Sees, Shut, wake, scan, comes_after, drains, rw_asks, rw_ends}
+use Rattle.parking_lot_machine.specs.Ranks.{rw_steps}
 use Rattle.parking_lot_machine.specs.Ranks.{vain, rw_parks, drain_parks, keeps_out, keeps_waiting, Unseen, may_find}
 use Rattle.parking_lot_core_model.specs.declared.parking.ParkToken.{ParkToken}
 use Rattle.parking_lot_protocol.specs.declared.act.ActResult.{ActResult}
@@ -348,7 +349,8 @@ module _ (n word first after : ℕ) (shut : Shut) where
       (λ e. omega (arith, end_costs n (Sees word first shut) a.rest))))
 
 module _ (n word first after : ℕ) (shut : Shut) (few : word / 16 < 2 ^ 60 - 1) where
-  pub falls : (p : RwPhase) (s : ActResult) → IsReady p → Gives (act_of p) word s → laws.Can (rw_stance p) (act_of p) shut s
+  pub falls : (p : RwPhase) (s : ActResult) → IsReady p → Gives (act_of p) word s
+      → laws.Can (rw_stance p) (act_of p) shut s
       → laws.Leaves (act_of p) s first after → Falls n word first after shut p s
   unfolding is_round
   falls (Loads a) (ActResult.Word v) ready g c l = omega (arith, seeks_cost n word after shut a v g few)
@@ -469,13 +471,16 @@ module _ (n word first : ℕ) (shut : Shut) (h : first ≤ n) where
   few (Spins a) = omega (arith, parks_most a.want shut.first, comes_few word first shut a.want)
   few (SetParked a from) = if_either (word == from) _ _ _ (omega (arith, parks_most a.want shut.first))
       (omega (arith, parks_most a.want shut.first, comes_few word first shut a.want))
-  few (Enters want again) = if_either (is_barred want word && is_parked word) _ _ _ (parks_most want shut.first) (omega arith)
+  few (Enters want again) = if_either (is_barred want word && is_parked word) _ _ _ (parks_most want shut.first)
+      (omega arith)
   few (Checks want again) = if_either (is_barred want word && is_parked word) _ _ _ (omega (arith, vain_least want))
       (omega arith)
   few (DrainLoads d) = omega (arith, drains_most shut.second)
   few (DrainSpins d) = omega (arith, drains_most shut.second)
-  few (DrainSetParked d from) = if_either (word == from) _ _ _ (omega (arith, drains_most shut.second)) (omega (arith, drains_most shut.second))
-  few (DrainEnters d) = if_either (has_readers word && is_writer_parked word) _ _ _ (omega (arith, drains_most shut.second))
+  few (DrainSetParked d from) = if_either (word == from) _ _ _ (omega (arith, drains_most shut.second))
+      (omega (arith, drains_most shut.second))
+  few (DrainEnters d) = if_either (has_readers word && is_writer_parked word) _ _ _
+      (omega (arith, drains_most shut.second))
       (omega arith)
   few (DrainChecks d) = if_either (has_readers word && is_writer_parked word) _ _ _ (omega arith) (omega arith)
   few (TryAdmits want from left) = if_either (word == from) _ _ _ (omega arith) (omega arith)

@@ -51,7 +51,8 @@ use Rattle.parking_lot_machine.proofs.InTime.{frees_same, mutex_in_time, owes_sa
 use Rattle.parking_lot_machine.proofs.InTime.{upgrade_in_time}
 use Rattle.parking_lot_machine.specs.RowFits.{FitsTogether, Stands, SeatedIn}
 use Rattle.parking_lot_machine_calls.specs.CallKinds.{IsOfKind, IsOfManner}
-use Rattle.parking_lot_machine.specs.Rows.{State, bucket, call_at, everybody, hold_at, lock_as, lock_at, mutex_at, open_at, rw_lock_at}
+use Rattle.parking_lot_machine.specs.Rows.{State, bucket, call_at, everybody, hold_at, lock_as, lock_at, mutex_at}
+use Rattle.parking_lot_machine.specs.Rows.{open_at, rw_lock_at}
 use Rattle.parking_lot_machine.specs.Rows.{mutex_role_at, rw_role_at, taken_by}
 use Rattle.parking_lot_machine_calls.specs.CallRoles.{mutex_spot, rw_spot}
 use Rattle.parking_lot_machine.specs.SoundLaws.{IsApart, SomebodyCanMove, SomebodyKeeps}
@@ -65,7 +66,8 @@ use Rattle.parking_lot_machine.proofs.KindTable.{MutexCall, Plain, Late, mutex_c
 use Rattle.parking_lot_machine.proofs.KindTable.{role_now}
 use Rattle.parking_lot_machine.proofs.Meeting.{in_range, mutex_sound, rw_sound}
 use Rattle.parking_lot_machine_calls.specs.declared.late_rw.LateRwPhase.{LateRwPhase}
-use Rattle.parking_lot_machine_calls.specs.LateCalls.{comes_late, is_back, is_pending, late_is_back, late_rw_is_back, late_key}
+use Rattle.parking_lot_machine_calls.specs.LateCalls.{comes_late, is_back, is_pending, late_is_back, late_rw_is_back}
+use Rattle.parking_lot_machine_calls.specs.LateCalls.{late_key}
 use Rattle.parking_lot_machine_calls.specs.LateCalls.{sleeps_in_time}
 use Rattle.parking_lot_machine_calls.proofs.Lying.{lies_out}
 use Rattle.parking_lot_rules.specs.Classes.{bit}

@@ -72,7 +72,8 @@ module _ (s : State) (t : ℕ) (c : Call) (heard : ActResult) (token : UnparkTok
   next_call = hears c heard
 
   abbrev pub told_state : State
-  told_state = with_word (with_lot (settles (with_call s t next_call) t (told_of token)) (stored s.lot (key_in c) token)) c.lock
+  told_state = with_word (with_lot (settles (with_call s t next_call) t (told_of token))
+      (stored s.lot (key_in c) token)) c.lock
       word
 
   module _ (h : FitsTogether s) (here : call_at s t ≡ Some c) where

@@ -179,7 +179,8 @@ module _ (s u : State) (t : ℕ) (c : Call) (fair : Bool) (h : FitsTogether s) (
       (late_laws.returns_pay s t c late here)
 
   pub find : (by : ℕ) (said : WakeResult) → comes_late c.core ≡ true → c.spot ≡ QueuePosition.Off by said
-      → open_at s (late_key c) ≡ None → lot.Sound (found s t c by said).lot → u ≡ found s t c by said → IsStepped t fair None s u
+      → open_at s (late_key c) ≡ None → lot.Sound (found s t c by said).lot → u ≡ found s t c by said
+      → IsStepped t fair None s u
   find by said late off free sound e =
       plain Act.Sleep (comes_act c.core late) refl
       (comes_became t c s u c.core late (e ∙ ap (λ at. came_back at s t c) (sym off))) (found s t c by said) e

@@ -378,14 +378,16 @@ module _ (s : State) (t : ℕ) (c : Call) (k : ℕ) (from : stance c.core ≡ In
 
   stays_rw : (y : RwCall) → c.core ≡ rw_call y → CallTold y (word_at s c.lock) finds_none
       → Finds (core_act (rw_call y)) (rw_lock_at s c.lock) → OwnMove (call_move c.others owed_here y finds_none) t
-      (entries s c.lock) (entries found_state c.lock) → IsMoveOf (rw_call y) c.others owed_here finds_none c.lock t s found_state
+      (entries s c.lock) (entries found_state c.lock)
+      → IsMoveOf (rw_call y) c.others owed_here finds_none c.lock t s found_state
   stays_rw y e heard finds moves =
       let a = subst (λ (x : Core). OwnAct s found_state t c finds_none x c.spot) (next_is y finds_none)
       (find_of (rw_call y) e) in
       let kind_is = of_rws.of_kind (slice_get s.kinds c.lock) y
       (subst (IsOfKind (slice_get s.kinds c.lock)) e (h.rules.kinds t c here)) in
       let leads_on = rw_leads (recursive_in s.kinds c.lock) (rw_lock_at s c.lock) t c.others c.spot owed_here y
-      (word_at s c.lock) finds_none (meets s h t c y e here) heard finds a.listed (entries s c.lock) (entries found_state c.lock)
+      (word_at s c.lock) finds_none (meets s h t c y e here) heard finds a.listed (entries s c.lock)
+      (entries found_state c.lock)
       moves in
       as_move y c.others owed_here finds_none c.lock t s found_state
       (rw_goes s found_state t c.lock (call_move c.others owed_here y finds_none) owed_here _
@@ -393,7 +395,8 @@ module _ (s : State) (t : ℕ) (c : Call) (k : ℕ) (from : stance c.core ≡ In
       kind_is leads_on.0
       (own_after of_rws s found_state t c finds_none (rw_next y finds_none) c.spot a _
       (a.word ∙ ap (λ y. word_after (core_act y) finds_none (word_at s c.lock)) e)) leads_on.1
-      (own_some (call_move c.others owed_here y finds_none) owed_here t (entries s c.lock) (entries found_state c.lock) moves))
+      (own_some (call_move c.others owed_here y finds_none) owed_here t (entries s c.lock)
+      (entries found_state c.lock) moves))
 
   -- the pending writer's list is empty
   finds_writer : (rest : AfterWake) → c.core ≡ Core.Rw (record { phase = RwPhase.TakeWriter rest }) → 1 ≡ k
@@ -420,7 +423,8 @@ module _ (s : State) (t : ℕ) (c : Call) (k : ℕ) (from : stance c.core ≡ In
             (sc.passes left_over (s.lot.queues (2 * c.lock)) (s.lot.queues (2 * c.lock + 1))
             (ap (λ n. is_left (s.lot.queues n)) (sym key)) all) in (
               stays_rw y e told (subst (λ (a : Act). Finds a (rw_lock_at s c.lock)) (sym sc.act.1) tt)
-                  (subst (λ m. OwnMove m t (entries s c.lock) (entries found_state c.lock)) (sym (sc.stays owed_here left_over))
+                  (subst (λ m. OwnMove m t (entries s c.lock) (entries found_state c.lock))
+                  (sym (sc.stays owed_here left_over))
                   (tt, finds_on.entered)),
               well.0,
               well.1,

@@ -345,7 +345,8 @@ module _ (s : State) (t : ℕ) (c : Call) (keep : ℕ) (asked : core_act c.core 
       (call_makes (recursive_in s.kinds c.lock) (rw_lock_at s c.lock) t c.others c.spot us z (word_at s c.lock) before
       (Mask2 c.others us) (meets s h t c z e here) refl refl
       (ap threads_of (subst (λ (x : Core). KnowsList x s.lot.queues c.lock) e (h.rules.knows t c here))))
-      (tt, (told_on s t c before (sign false) (bit_and (word_at s c.lock) keep) 1 h here (ap stance e)).entered) refl (λ at park w. in_asleep w)
+      (tt, (told_on s t c before (sign false) (bit_and (word_at s c.lock) keep) 1 h here (ap stance e)).entered) refl
+      (λ at park w. in_asleep w)
 
   mask_late_rw : c.core ≡ Core.LateRw LateRwPhase.Masks → Fitted s mask_then t c before (Core.LateRw LateRwPhase.Masks)
   mask_late_rw e =
@@ -354,7 +355,8 @@ module _ (s : State) (t : ℕ) (c : Call) (keep : ℕ) (asked : core_act c.core 
       mask_by z Mask1 e refl refl (λ f g. tt) tt
       (tardy_makes (recursive_in s.kinds c.lock) (rw_lock_at s c.lock) t c.others c.spot us LateRwPhase.Masks
       (word_at s c.lock) before (meets s h t c z e here) refl Mask1 refl)
-      (tt, (told_on s t c before (sign false) (bit_and (word_at s c.lock) keep) 0 h here (ap stance e)).entered) refl (λ at park w. in_asleep w)
+      (tt, (told_on s t c before (sign false) (bit_and (word_at s c.lock) keep) 0 h here (ap stance e)).entered) refl
+      (λ at park w. in_asleep w)
 
   mask_rw : (y : RwCall) → c.core ≡ rw_call y → Fitted s mask_then t c before (rw_call y)
   mask_rw y e = elim (call_masks (recursive_in s.kinds c.lock) c.others keep y

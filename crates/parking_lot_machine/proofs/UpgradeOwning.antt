@@ -95,7 +95,8 @@ module _ (t : ℕ) (old new : Entries) where
   seeks_own (RwPhase.Sleeps want) s i room own h = absurd own
   seeks_own q s i room own h = absurd i
 
-  drains_own : (q : RwPhase) (s : ActResult) → IsDraining q → IsOwnAct (rt.act_of q) → AfterAct (rw_stance q) (rt.act_of q) t old new
+  drains_own : (q : RwPhase) (s : ActResult) → IsDraining q → IsOwnAct (rt.act_of q)
+      → AfterAct (rw_stance q) (rt.act_of q) t old new
       → OwnMove (drains_move q s) t old new
   drains_own (RwPhase.DrainLoads d) (ActResult.Word word) i own h = if_not (rt.has_readers word) _ h h
   drains_own (RwPhase.DrainLoads d) s i own h = h
@@ -119,7 +120,8 @@ module _ (t : ℕ) (old new : Entries) where
   ends_free r k own = subst (λ b. IsOwnAct (cond b Act.Load (Act.Done CoreAnswer.Released))) k own
 
   frees_own : (us : List ℕ) (r : Release) (q : RwPhase) (s : ActResult) → ut.is_again r ≡ false → IsFreeing q
-      → IsOwnAct (ut.frees_act r q) → AfterAct (rw_stance q) (ut.frees_act r q) t old new → OwnMove (frees_move us q s) t old new
+      → IsOwnAct (ut.frees_act r q) → AfterAct (rw_stance q) (ut.frees_act r q) t old new
+      → OwnMove (frees_move us q s) t old new
   frees_own us r (RwPhase.LooksExclusive fair rest) s k i own h = h
   frees_own us r (RwPhase.Scans a) s k i own h = absurd own
   frees_own us r (RwPhase.Stores a left) s k i own h = absurd own

@@ -78,7 +78,8 @@ module _ (n word first after : ℕ) (shut : Shut) (room : word / 16 < 2 ^ 60 - 1
   admits_fall a from s ready true e g l = absurd g
 
   seeks_fall : (q : RwPhase) (s : ActResult) → IsSeeking q → rw.IsReady q → seeks_room q → Gives (ut.seeks_act q) word s
-      → Can (seeks_stance q) (ut.seeks_act q) shut s → Leaves (ut.seeks_act q) s first after → Falls (ut.seeks_act q) s (seeks_next q s)
+      → Can (seeks_stance q) (ut.seeks_act q) shut s → Leaves (ut.seeks_act q) s first after
+      → Falls (ut.seeks_act q) s (seeks_next q s)
       (rw_steps n (Sees word first shut) q)
   seeks_fall (RwPhase.Admits a from) s i ready here g c l = admits_fall a from s ready (rt.has_room from) here g l
   seeks_fall (RwPhase.Loads a) (ActResult.Word v) i ready here g c l = steps_fall.falls n (RwPhase.Loads a)
@@ -149,7 +150,8 @@ module _ (n word first after : ℕ) (shut : Shut) (room : word / 16 < 2 ^ 60 - 1
   finish_falls s true e g = absurd (both_ways true e refl)
 
   frees_fall : (r : Release) (q : RwPhase) (s : ActResult) → IsFreeing q → ut.is_again r ≡ false
-      → Gives (ut.frees_act r q) word s → Can (rw_stance q) (ut.frees_act r q) shut s → Leaves (ut.frees_act r q) s first after
+      → Gives (ut.frees_act r q) word s → Can (rw_stance q) (ut.frees_act r q) shut s
+      → Leaves (ut.frees_act r q) s first after
       → Falls (ut.frees_act r q) s (frees_next r q s) (rw_steps n (Sees word first shut) q)
   frees_fall r (RwPhase.LooksExclusive fair rest) ActResult.Entered i once g c l =
       steps_fall.falls n (RwPhase.LooksExclusive fair rest) ActResult.Entered word first after shut room
@@ -288,7 +290,8 @@ module _ (n word first after : ℕ) (shut : Shut) (room : word / 16 < 2 ^ 60 - 1
   owes_few hold end w v = few_of n v (rt.is_parked w) _ _ _ (omega arith) (omega arith)
 
   falls : (p : UpgradePhase) (s : ActResult) → IsReady p → IsOfWorld p → Gives (ut.act_of p) word s
-      → Can (upgrade_stance p) (ut.act_of p) shut s → Leaves (ut.act_of p) s first after → Falls (ut.act_of p) s (ut.next_phase p s)
+      → Can (upgrade_stance p) (ut.act_of p) shut s → Leaves (ut.act_of p) s first after
+      → Falls (ut.act_of p) s (ut.next_phase p s)
       (upgrade_steps n (Sees word first shut) p)
   falls (UpgradePhase.Plain core) s i k g c l = absurd k
   falls (UpgradePhase.Seeks core) s i k g c l = seeks_fall core.phase s i.0 i.1 k g c l
@@ -453,7 +456,8 @@ few n word first shut (UpgradePhase.Frees r core) h = steps_fall.few n word firs
 few n word first shut (UpgradePhase.Owes kept end core) h = steps_fall.few n word first shut core.phase h
 few n word first shut (UpgradePhase.TryAdmits from left) h = either (word == from) 2 3 3 (omega arith) (omega arith)
 few n word first shut (UpgradePhase.TryUpgrades from left) h = either (word == from) 2 3 3 (omega arith) (omega arith)
-few n word first shut UpgradePhase.Upgrades h = omega (arith, either (not shut.second) 4 9 9 (omega arith) (omega arith))
+few n word first shut UpgradePhase.Upgrades h =
+    omega (arith, either (not shut.second) 4 9 9 (omega arith) (omega arith))
 few n word first shut (UpgradePhase.UnlockLoads r) h = omega (arith, few_found n first shut.first h)
 few n word first shut (UpgradePhase.Unlocks r from) h = either (word == from) 2 (scan n (Sees word first shut) + 8)
     (scan n Unseen + 8) (omega arith) (omega (arith, few_found n first shut.first h))

@@ -1,5 +1,6 @@
 -- Wakes, answers and beginnings are paid for; and where a thread can't move, another may be stepped.
-use Rattle.std.proofs.Common.{◌≡◌, ◌||◌, ℕ, zero, suc, ◌+◌, ◌*◌, ◌<◌, ◌≤◌, inl, inr, Bool, length, Some, None, slice_get, slice_set, sum_by, refl}
+use Rattle.std.proofs.Common.{◌≡◌, ◌||◌, ℕ, zero, suc, ◌+◌, ◌*◌, ◌<◌, ◌≤◌, inl, inr, Bool, length, Some, None}
+use Rattle.std.proofs.Common.{slice_get, slice_set, sum_by, refl}
 use Rattle.std.proofs.Common.{sym, ap, ◌∙◌, subst, arith, true, false, not, Option, is_some}
 use Rattle.std.specs.Option.{option_and_then}
 use Rattle.std.proofs.lemmas.Bool.{ne_eqb, both_ways}

@@ -64,7 +64,8 @@ pub record ActsAreSteps : Type 0 where
       → Keeps t c s (exchanged s t c from to)
   pub add : (s : State) (t : ℕ) (c : Call) (by : ℕ) → core_act c.core ≡ act.Add by → Keeps t c s (added s t c by)
   pub spin : (s : State) (t : ℕ) (c : Call) → core_act c.core ≡ act.Spin → Keeps t c s (spun s t c)
-  pub enter : (s : State) (t : ℕ) (c : Call) (key : ℕ) → core_act c.core ≡ act.Enter key → open_at s (key_of c key) ≡ None
+  pub enter : (s : State) (t : ℕ) (c : Call) (key : ℕ) → core_act c.core ≡ act.Enter key
+      → open_at s (key_of c key) ≡ None
       → lot.Sound (entered s t c key).lot → Keeps t c s (entered s t c key)
   pub check : (s : State) (t : ℕ) (c : Call) → core_act c.core ≡ act.Section section.Check
       → lot.Sound (checked s t c).lot → Keeps t c s (checked s t c)

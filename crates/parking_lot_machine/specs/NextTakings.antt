@@ -17,7 +17,8 @@ abbrev pub NextTaken : (ℕ → FilterOp) → Machine → Machine → Result (Op
 NextTaken ask old new result key =
     ((nth : ℕ) × (w : Waiter) × IsNext ask (old.queues key) nth w × (result ≡ Ok (Some (taking_of old w)))
     × (new ≡ taken (in_phase old key (phase.Taking nth)) key nth))
-    ⊎ (ArePassed ask (old.queues key) (length (old.queues key)) × (result ≡ Ok None) × (new ≡ in_phase old key phase.Ended))
+    ⊎ (ArePassed ask (old.queues key) (length (old.queues key)) × (result ≡ Ok None)
+    × (new ≡ in_phase old key phase.Ended))
 
 abbrev pub NextsAreTaken : {F : Type 0} → (F → ParkToken → FilterOp → F → Type 0) → F → Type 0
 NextsAreTaken {F} gives filter =

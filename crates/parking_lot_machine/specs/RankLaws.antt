@@ -65,7 +65,8 @@ pub record MutexStepsFall : Type 0 where
 
 pub record RwStepsFall : Type 0 where
   pub falls : (n : ℕ) (p : RwPhase) (s : ActResult) (word first after : ℕ) (shut : Shut) → word / 16 < 2 ^ 60 - 1
-      → IsReady p → Gives (of_rw.act_of p) word s → Can (rw_stance p) (of_rw.act_of p) shut s → Leaves (of_rw.act_of p) s first after
+      → IsReady p → Gives (of_rw.act_of p) word s → Can (rw_stance p) (of_rw.act_of p) shut s
+      → Leaves (of_rw.act_of p) s first after
       → rw_steps n (Sees (word_after (of_rw.act_of p) s word) after shut) (of_rw.next_phase p s) + 1 ≤ rw_steps n
       (Sees word first shut) p
   pub wakes : (n : ℕ) (p : RwPhase) (v : View) → of_rw.act_of p ≡ act.Section section.Wake → 1 ≤ rw_taken p

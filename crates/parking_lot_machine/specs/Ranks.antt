@@ -151,8 +151,8 @@ abbrev pub keeps_waiting : View → Bool
 keeps_waiting Unseen = false
 keeps_waiting (Sees word first shut) = of_rw.has_readers word && of_rw.is_writer_parked word
 
--- One that is before a section of the second key may be kept there, while it could enter one of the first: so what comes
--- behind is counted as if nothing were known.
+-- One that is before a section of the second key may be kept there, while it could enter one of the first: so what
+-- comes behind is counted as if nothing were known.
 abbrev pub rw_steps : ℕ → View → RwPhase → ℕ
 rw_steps n v (r.Loads a) = 1 + rw_asks v a.want a.rounds
 rw_steps n v (r.Admits a word) = if is_at v word then 1 + comes_after v a.want else 1 + rw_asks v a.want a.rounds

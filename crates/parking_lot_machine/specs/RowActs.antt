@@ -99,7 +99,8 @@ took_nobody s t c key = with_lot (with_call s t (hears c (seen.Took None (is_lef
 abbrev pub told_all : State → ℕ → Call → WordChange → Bool → State
 told_all s t c change fair =
     let d = hears c (seen.Stored fair) in
-    with_word (with_lot (settles (with_call s t d) t (told_of (core_tells d.core))) (stored s.lot (key_in c) (core_tells d.core)))
+    with_word (with_lot (settles (with_call s t d) t (told_of (core_tells d.core)))
+    (stored s.lot (key_in c) (core_tells d.core)))
     c.lock (change_of change (word_at s c.lock))
 
 abbrev pub left : State → ℕ → Call → State

@@ -97,8 +97,8 @@ IsAt (spot.Off by said) place sections key =
     × (opened.thread ≡ Some by) × SaidIn opened said)
     ⊎ ((token : UnparkToken) × (place ≡ Some (Taken token key sleep false)) × (said ≡ told_of token)))
 
--- Its stance at lock j fits the lot: its place there, the key of the section that it is in, and the section that is open
--- in the bucket of each key.
+-- Its stance at lock j fits the lot: its place there, the key of the section that it is in, and the section that is
+-- open in the bucket of each key.
 abbrev pub Stands : ℕ → ℕ → Stance → QueuePosition → Option Place → Option ℕ → (ℕ → Option Section) → Type 0
 Stands t j Out at place inside sections = (place ≡ Some Running) × (inside ≡ None)
 Stands t j (In k how) at place inside sections =

@@ -19,7 +19,8 @@ use Rattle.parking_lot_machine_calls.specs.Stances.{upgrade_stance, upgrade_take
 -- others see of them is as it is of calls of shared and exclusive holds.
 pub record UpgradeStepsFall : Type 0 where
   pub falls : (n : ℕ) (p : UpgradePhase) (s : ActResult) (word first after : ℕ) (shut : Shut) → word / 16 < 2 ^ 60 - 1
-      → IsReady p → IsOfWorld p → Gives (act_of p) word s → Can (upgrade_stance p) (act_of p) shut s → Leaves (act_of p) s first after
+      → IsReady p → IsOfWorld p → Gives (act_of p) word s → Can (upgrade_stance p) (act_of p) shut s
+      → Leaves (act_of p) s first after
       → upgrade_steps n (Sees (word_after (act_of p) s word) after shut) (next_phase p s) + 1 ≤ upgrade_steps n
       (Sees word first shut) p
   pub wakes : (n : ℕ) (p : UpgradePhase) (v : View) → IsReady p → IsOfWorld p → act_of p ≡ act.Section section.Wake

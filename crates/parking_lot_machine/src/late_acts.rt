@@ -52,8 +52,8 @@ impl<A: Allocator> RowMachine<A> {
         self.calls[thread] = Some(call.told(ActResult::Entered));
     }
 
-    /// It comes back, where nobody is in a section of its list's bucket, and finds that a thread has taken it. From then
-    /// on nobody is to wake it.
+    /// It comes back, where nobody is in a section of its list's bucket, and finds that a thread has taken it. From
+    /// then on nobody is to wake it.
     pub(crate) fn find(&mut self, thread: usize, call: Call, by: usize, said: WakeResult)
         requires here { call_at (state self.old) thread ≡ Some call }
         requires late { comes_late call.core ≡ true }

@@ -119,8 +119,8 @@ impl<A: Allocator> RowMachine<A> {
         &self.lot
     }
 
-    /// Whether a thread can make a step: it is in a call, doesn't sleep, and isn't before a section whose bucket another
-    /// has entered.
+    /// Whether a thread can make a step: it is in a call, doesn't sleep, and isn't before a section whose bucket
+    /// another has entered.
     pub fn can_move(&self, thread: usize) -> bool
         ensures { result ≡ can_move (state self.now) thread }
     {

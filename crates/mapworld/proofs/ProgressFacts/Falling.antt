@@ -37,7 +37,8 @@ use Rattle.mapworld_state.specs.Steps.{EntersBy}
 use Rattle.mapworld.specs.Progress.Left.{ask_left, call_left, left, pairs_from, phase_left, phase_todo, place_left}
 use Rattle.mapworld.specs.Progress.Left.{place_todo, release_left, to_come}
 use Rattle.mapworld_state.proofs.LocksFacts.Lawful.{lawful-begins, lawful-starts}
-use Rattle.mapworld.proofs.ProgressFacts.Coming.{TablesBy, StaysVisited, asks-todo, behind, phase-todo, place-todo, sum-but}
+use Rattle.mapworld.proofs.ProgressFacts.Coming.{TablesBy, StaysVisited, asks-todo, behind, phase-todo, place-todo}
+use Rattle.mapworld.proofs.ProgressFacts.Coming.{sum-but}
 use Rattle.mapworld.proofs.ProgressFacts.Coming.{tables-size}
 
 -- WHAT PHASES TAKE

@@ -27,7 +27,8 @@ use Rattle.mapworld.proofs.ProgressFacts.Counting.{fresh-added, fresh-alike, fre
 use Rattle.mapworld.proofs.ProgressFacts.Coming.{TablesBy, same, one, StaysVisited, adds-most, seen-counted, seen-ended}
 use Rattle.mapworld.proofs.ProgressFacts.Coming.{seen-listed, seen-same}
 use Rattle.mapworld.proofs.ProgressFacts.Falling.{changed_plain, changed_takes, falls_beside, falls_by, falls_plain}
-use Rattle.mapworld.proofs.ProgressFacts.Falling.{found_plain, found_takes, given_most, own-todo, grown_plain, grown_takes}
+use Rattle.mapworld.proofs.ProgressFacts.Falling.{found_plain, found_takes, given_most, own-todo, grown_plain}
+use Rattle.mapworld.proofs.ProgressFacts.Falling.{grown_takes}
 use Rattle.mapworld.proofs.ProgressFacts.Falling.{started_costs}
 
 -- what a step leaves of each part

@@ -28,7 +28,8 @@ use Rattle.mapworld.specs.Progress.Left.{fresh, fresh_of, items_at, left, pairs_
 use Rattle.mapworld.specs.Progress.Left.{release_left, to_come, visit_left, visited_by, block_at}
 use Rattle.mapworld_state.proofs.LocksFacts.Lawful.{lawful-begins}
 use Rattle.mapworld.proofs.ProgressFacts.Counting.{fresh-all, fresh-alike, fresh-done, fresh-put, visited-more}
-use Rattle.mapworld.proofs.ProgressFacts.Coming.{TablesBy, same, one, pairs-above, pairs-at, seen-push, seen-same, seen-set}
+use Rattle.mapworld.proofs.ProgressFacts.Coming.{TablesBy, same, one, pairs-above, pairs-at, seen-push, seen-same}
+use Rattle.mapworld.proofs.ProgressFacts.Coming.{seen-set}
 use Rattle.mapworld.proofs.ProgressFacts.Falling.{asked_most, falls_beside, falls_by, given_most, own-behind, own-todo}
 use Rattle.mapworld.proofs.ProgressFacts.Falling.{started_costs}
 use Rattle.mapworld.proofs.ProgressFacts.Stepping.{at-lock, blocks-are, locks-are, number-most, places-are, tables-are}

@@ -34,7 +34,8 @@ use Rattle.parking_lot_machine.proofs.MutexMoving.{set_same}
 use Rattle.mapworld_state.proofs.HoldsTable.{only-first, none-there, first-there}
 
 -- a thread that has one hold has no more
-pub no-more : (hs : List Hold) (a b : Hold) (more : List Hold) → hs ≡ a ∷ [] → hs ≡ b ∷ more → (a ≡ b) × (more ≡ []) × (hs ≡ b ∷ [])
+pub no-more : (hs : List Hold) (a b : Hold) (more : List Hold) → hs ≡ a ∷ [] → hs ≡ b ∷ more
+    → (a ≡ b) × (more ≡ []) × (hs ≡ b ∷ [])
 no-more hs a b more one has =
     let same : a ∷ [] ≡ b ∷ more = sym one ∙ has in
     let none : more ≡ [] = cc in
@@ -64,7 +65,8 @@ module _ {K V D T A : Type 0} (p : Place K V D T A) (mode : Mode) (manner : Mann
       inl (at_desk mode, ap (λ (z : Stand). z.shard) same, ap (λ (z : Stand). z.aim) same)
 
 -- a thread that is in a lock's call waits for its admission, or owes something to the lock
-pub in-call : {K V D T A : Type 0} (p : Place K V D T A) (f : Phase K V D T A) (stand : Stand) → StandsBefore p f (Some stand)
+pub in-call : {K V D T A : Type 0} (p : Place K V D T A) (f : Phase K V D T A) (stand : Stand)
+    → StandsBefore p f (Some stand)
     → ((m : DeskMode) × (stand.shard ≡ p.shard) × (stand.aim ≡ Gets m)) ⊎ MayOwe p stand.shard stand.aim
 in-call p phase.Rest stand h = absurd (none-some stand (sym h))
 in-call p (phase.Admit r) stand h = wanting p (mode_of r) (request_manner r) stand h
@@ -172,8 +174,10 @@ started-others t shard call fair old new a =
 pub record OwnMatches {K V D T A : Type 0} (places : List (Place K V D T A)) (t : ℕ) (p : Place K V D T A)
     (locks : Shown) : Type 0 where
   pub owned : (i : ℕ) (a : Hold) → slice_get p.holds i ≡ Some a → owner_in locks a.shard t ≡ Some (at_desk a.mode)
-  pub known : (shard : ℕ) (m : DeskMode) → owner_in locks shard t ≡ Some m → IsAmong shard m p.holds ⊎ IsAt locks t shard
-  pub once : (i j : ℕ) (a b : Hold) → slice_get p.holds i ≡ Some a → slice_get p.holds j ≡ Some b → a.shard ≡ b.shard → i ≡ j
+  pub known : (shard : ℕ) (m : DeskMode) → owner_in locks shard t ≡ Some m
+      → IsAmong shard m p.holds ⊎ IsAt locks t shard
+  pub once : (i j : ℕ) (a b : Hold) → slice_get p.holds i ≡ Some a → slice_get p.holds j ≡ Some b → a.shard ≡ b.shard
+      → i ≡ j
   pub compatible : (u i j : ℕ) (q : Place K V D T A) (a b : Hold) → u ≢ t → slice_get places u ≡ Some q
       → slice_get p.holds i ≡ Some a → slice_get q.holds j ≡ Some b → a.shard ≡ b.shard
       → (a.mode ≡ Shared) × (b.mode ≡ Shared)
@@ -181,7 +185,8 @@ pub record OwnMatches {K V D T A : Type 0} (places : List (Place K V D T A)) (t 
 
 module _ {K V D T A : Type 0} (places : List (Place K V D T A)) (locks : Shown) (h : HoldsMatch places locks) where
   -- two threads that hold one shard share it
-  pub exclusion : (t u : ℕ) (p q : Place K V D T A) (a b : Hold) → t ≢ u → slice_get places t ≡ Some p → slice_get places u ≡ Some q
+  pub exclusion : (t u : ℕ) (p q : Place K V D T A) (a b : Hold) → t ≢ u → slice_get places t ≡ Some p
+      → slice_get places u ≡ Some q
       → p.holds ≡ a ∷ [] → q.holds ≡ b ∷ [] → a.shard ≡ b.shard → (a.mode ≡ Shared) × (b.mode ≡ Shared)
   exclusion t u p q a b ne hp hq ha hb shard = h.compatible t u 0 0 p q a b ne hp hq (first-there p.holds a [] ha)
       (first-there q.holds b [] hb) shard
@@ -189,7 +194,8 @@ module _ {K V D T A : Type 0} (places : List (Place K V D T A)) (locks : Shown) 
   -- the lock's call that a thread is in, by the phase that it stands before
   pub stand-at : (t : ℕ) (p : Place K V D T A) → slice_get places t ≡ Some p → (f : Phase K V D T A) → p.phase ≡ f
       → StandsBefore p f (stand_in locks t)
-  stand-at t p at f before = subst (λ (g : Phase K V D T A). StandsBefore p g (stand_in locks t)) before (h.stands t p at)
+  stand-at t p at f before = subst (λ (g : Phase K V D T A). StandsBefore p g (stand_in locks t)) before
+      (h.stands t p at)
 
   module _ (t : ℕ) (p p' : Place K V D T A) (at : slice_get places t ≡ Some p) where
     -- a thread that another one's step leaves, and the one that made it
@@ -222,16 +228,21 @@ module _ {K V D T A : Type 0} (places : List (Place K V D T A)) (locks : Shown) 
           (λ mine. ⊎_elim (λ both. absurd (ne (mine.0 ∙ sym both.0)))
           (λ other. own.compatible v i j r a b other.0 other.1 (now i q a mine.1 ha) hb e) (there v r hr))
           (λ other. ⊎_elim
-          (λ mine. let both = own.compatible u j i q b a other.0 other.1 (now j r b mine.1 hb) ha (sym e) in (both.1, both.0))
+          (λ mine. let both = own.compatible u j i q b a other.0 other.1 (now j r b mine.1 hb) ha (sym e) in (
+            both.1,
+            both.0,
+          ))
           (λ others. h.compatible u v i j q r a b ne other.1 others.1 ha hb e) (there v r hr))
           (there u q hq);
       stands = λ u q hq. elim (there u q hq) [
         | inl mine ↦ rw (mine.0, mine.1) own.stands
-        | inr other ↦ subst (λ (o : Option Stand). StandsBefore q q.phase o) (sym (others.stands u other.0)) (h.stands u q other.1)
+        | inr other ↦ subst (λ (o : Option Stand). StandsBefore q q.phase o) (sym (others.stands u other.0))
+            (h.stands u q other.1)
       ];
     }
       where
-        now : (i : ℕ) (q : Place K V D T A) (a : Hold) → q ≡ p' → slice_get q.holds i ≡ Some a → slice_get p'.holds i ≡ Some a
+        now : (i : ℕ) (q : Place K V D T A) (a : Hold) → q ≡ p' → slice_get q.holds i ≡ Some a
+            → slice_get p'.holds i ≡ Some a
         now i q a own ha = ap (λ (z : Place K V D T A). slice_get z.holds i) (sym own) ∙ ha
 
     -- a hold that stands there still
@@ -251,12 +262,14 @@ module _ {K V D T A : Type 0} (places : List (Place K V D T A)) (locks : Shown) 
       owned = λ i a ha. owned i a (was same i a ha);
       known = λ shard m o. elim (known shard m o) [ inl among ↦ inl (was-among same shard m among) | inr is ↦ inr is ];
       once = λ i j a b ha hb e. h.once t i j p a b at (was same i a ha) (was same j b hb) e;
-      compatible = λ u i j q a b ne hq ha hb e. h.compatible t u i j p q a b (λ z. ne (sym z)) at hq (was same i a ha) hb e;
+      compatible = λ u i j q a b ne hq ha hb e. h.compatible t u i j p q a b (λ z. ne (sym z)) at hq
+          (was same i a ha) hb e;
       stands = stands;
     }
 
     -- neither its holds nor the locks are others
-    pub holds-same : p'.holds ≡ p.holds → StandsBefore p' p'.phase (stand_in locks t) → HoldsMatch (slice_set places t p') locks
+    pub holds-same : p'.holds ≡ p.holds → StandsBefore p' p'.phase (stand_in locks t)
+        → HoldsMatch (slice_set places t p') locks
     holds-same same stands =
         holds-by locks (still-owned t locks locks (λ v ne. refl) (λ v i. refl))
         (own-same same locks (λ i a ha. h.owned t i p a at ha) (λ shard m o. h.known t shard p m at o) stands)
@@ -334,7 +347,8 @@ module _ {K V D T A : Type 0} (places : List (Place K V D T A)) (locks : Shown) 
     -- its admission is over, and it has one hold more, of a shard of which it had none
     module _ (a : Hold) (taken : p'.holds ≡ p.holds ++ a ∷ [])
         (apart : (i : ℕ) (b : Hold) → slice_get p.holds i ≡ Some b → b.shard ≢ a.shard) where
-      either : (i : ℕ) (b : Hold) → slice_get p'.holds i ≡ Some b → (slice_get p.holds i ≡ Some b) ⊎ ((i ≡ length p.holds) × (b ≡ a))
+      either : (i : ℕ) (b : Hold) → slice_get p'.holds i ≡ Some b
+          → (slice_get p.holds i ≡ Some b) ⊎ ((i ≡ length p.holds) × (b ≡ a))
       either i b hb = slice_get-push_cases p.holds i b a (ap (λ hs. slice_get hs i) (sym taken) ∙ hb)
 
       among-more : (i : ℕ) (m : DeskMode) → IsAmong i m p.holds → IsAmong i m p'.holds
@@ -346,7 +360,8 @@ module _ {K V D T A : Type 0} (places : List (Place K V D T A)) (locks : Shown) 
         mode_is = o.mode_is;
       }
 
-      pub holds-admitted : (answer : CoreAnswer) (locks' : Shown) (e : LockEnds t answer locks locks') → e.stand.shard ≡ a.shard
+      pub holds-admitted : (answer : CoreAnswer) (locks' : Shown) (e : LockEnds t answer locks locks')
+          → e.stand.shard ≡ a.shard
           → owner_in locks' a.shard t ≡ Some (at_desk a.mode) → StandsBefore p' p'.phase None
           → HoldsMatch (slice_set places t p') locks'
       holds-admitted answer locks' e shard mine stands =
@@ -397,7 +412,8 @@ module _ {K V D T A : Type 0} (places : List (Place K V D T A)) (locks : Shown) 
         (λ i k o. elim (h.known t i p k at (sym (e.holds t i) ∙ o)) [
           | inl among ↦ inl among
           | inr is ↦
-              let here : i ≡ e.stand.shard = sym is.2 ∙ ap (λ (z : Stand). z.shard) (same_Some is.0 e.stand (sym is.1 ∙ e.stood)) in
+              let here : i ≡ e.stand.shard = sym is.2 ∙ ap (λ (z : Stand). z.shard) (same_Some is.0 e.stand (sym is.1
+              ∙ e.stood)) in
               absurd (none-some k (sym (e.gave_up m aim unowned) ∙ ap (λ j. owner_in locks' j t) (sym here) ∙ o))
         ])
         (subst (λ (o : Option Stand). StandsBefore p' p'.phase o) (sym e.gone) stands))
@@ -417,7 +433,8 @@ module _ {K V D T A : Type 0} (places : List (Place K V D T A)) (locks : Shown) 
 
       pub elsewhere : (i : ℕ) (b : Hold) → slice_get more i ≡ Some b → b.shard ≢ a.shard
       elsewhere i b hb same =
-          let first : 0 ≡ suc i = h.once t 0 (suc i) p a b at (first-there p.holds a more held) (behind i b hb) (sym same) in
+          let first : 0 ≡ suc i = h.once t 0 (suc i) p a b at (first-there p.holds a more held) (behind i b hb)
+          (sym same) in
           absurd (omega (arith, first))
 
       apart-same : (i : ℕ) → i ≢ a.shard → owner_in locks' i t ≡ owner_in locks i t
@@ -428,7 +445,14 @@ module _ {K V D T A : Type 0} (places : List (Place K V D T A)) (locks : Shown) 
         where
           at-index : (j : ℕ) → slice_get (a ∷ more) j ≡ Some o.hold → IsAmong i m more
           at-index zero e = absurd (ne (sym o.shard_is ∙ ap (λ (z : Hold). z.shard) (sym (same_Some a o.hold e))))
-          at-index (suc j) e = record { index = j; hold = o.hold; there = e; shard_is = o.shard_is; mode_is = o.mode_is }
+          at-index (suc j) e = record {
+            index = j;
+            hold = o.hold;
+            there = e;
+            shard_is = o.shard_is;
+            mode_is =
+                o.mode_is;
+          }
 
       known-now : (i : ℕ) (m : DeskMode) → owner_in locks' i t ≡ Some m → IsAmong i m more ⊎ IsAt locks' t i
       known-now i m o = ⊎_elim
@@ -452,7 +476,8 @@ module _ {K V D T A : Type 0} (places : List (Place K V D T A)) (locks : Shown) 
                 (behind j c (there-still j c hc)) same in omega arith;
             compatible = λ u i j q b c ne hq hb hc same. h.compatible t u (suc i) j p q b c (λ z. ne (sym z)) at hq
                 (behind i b (there-still i b hb)) hc same;
-            stands = owes (stand_in locks' t) (subst (λ (o : Option Stand). IsOwing p' o) (sym stand-now) (rw gives (gone m)));
+            stands = owes (stand_in locks' t) (subst (λ (o : Option Stand). IsOwing p' o) (sym stand-now)
+                (rw gives (gone m)));
           })
         where
           there-still : (i : ℕ) (b : Hold) → slice_get p'.holds i ≡ Some b → slice_get more i ≡ Some b
@@ -500,7 +525,8 @@ module _ {K V D T A : Type 0} (places : List (Place K V D T A)) (locks : Shown) 
             (λ here. inr (a.stand, a.stands, sym here))
             (λ (ne : i ≢ a.stand.shard). elim (h.known t i p m at (sym (a.elsewhere i ne) ∙ o)) [
               | inl among ↦ inl among
-              | inr is ↦ absurd (ne (sym is.2 ∙ ap (λ (z : Stand). z.shard) (same_Some is.0 a.stand (sym is.1 ∙ a.stood))))
+              | inr is ↦ absurd (ne (sym is.2 ∙ ap (λ (z : Stand). z.shard) (same_Some is.0 a.stand (sym is.1
+                  ∙ a.stood))))
             ])
             (cases_eq i a.stand.shard)
 
@@ -546,7 +572,8 @@ module _ {K V D T A : Type 0} (places : List (Place K V D T A)) (locks : Shown) 
         (owes-none-at p p.phase (stand_in locks' t) may e.gone)))
       where
         owes : MayOwe p e.stand.shard e.stand.aim
-        owes = subst (λ (o : Option Stand). IsOwing p o) e.stood (owes-at p p.phase (stand_in locks t) may (h.stands t p at))
+        owes = subst (λ (o : Option Stand). IsOwing p o) e.stood
+            (owes-at p p.phase (stand_in locks t) may (h.stands t p at))
 
         done : (aim : Aim) → e.stand.aim ≡ aim → MayOwe p e.stand.shard aim → (m : DeskMode)
             → owner_in locks' e.stand.shard t ≡ Some m → IsAmong e.stand.shard m p.holds
@@ -564,6 +591,8 @@ module _ {K V D T A : Type 0} (places : List (Place K V D T A)) (locks : Shown) 
         known i m o = elim (h.known t i p m at (sym (e.holds t i) ∙ o)) [
           | inl among ↦ inl among
           | inr is ↦
-              let here : e.stand.shard ≡ i = ap (λ (z : Stand). z.shard) (same_Some e.stand is.0 (sym e.stood ∙ is.1)) ∙ is.2 in
-              inl (subst (λ (k : ℕ). IsAmong k m p.holds) here (done e.stand.aim refl owes m (ap (λ k. owner_in locks' k t) here ∙ o)))
+              let here : e.stand.shard ≡ i = ap (λ (z : Stand). z.shard) (same_Some e.stand is.0 (sym e.stood ∙ is.1))
+              ∙ is.2 in
+              inl (subst (λ (k : ℕ). IsAmong k m p.holds) here
+              (done e.stand.aim refl owes m (ap (λ k. owner_in locks' k t) here ∙ o)))
         ]

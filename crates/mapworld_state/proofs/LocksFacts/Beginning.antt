@@ -377,7 +377,8 @@ module _ (old : Shown) (fit : LocksFit old) (t i : ℕ) (call : LockCall) (ask :
         | inr ne ↦ fit.plain.alone v d (sym (apart v ne) ∙ at)
       ];
       cores = λ v d at. elim (cases_eq v t) [
-        | inl e ↦ ap (λ (y : Call). is_plain (is_timed y.asked) y.core) (same_Some d c (sym at ∙ ap (call_at u) e ∙ here))
+        | inl e ↦ ap (λ (y : Call). is_plain (is_timed y.asked) y.core) (same_Some d c (sym at ∙ ap (call_at u) e
+            ∙ here))
             ∙ begun_plain (kind_in s.kinds i) call ask.of_kind
         | inr ne ↦ fit.plain.cores v d (sym (apart v ne) ∙ at)
       ];

@@ -335,7 +335,8 @@ off_goes calls t w = at (call_of calls w) refl
 -- everybody is told what a thread says to those that it has taken
 settled_goes : (calls : List (Option Call)) (t : ℕ) (said : WakeResult)
     → GoesOn calls (map (option_map (settled t said)) calls)
-settled_goes calls t said = map_goes (settled t said) calls (λ c. follows_itself c (settled t said c) refl refl refl refl)
+settled_goes calls t said = map_goes (settled t said) calls
+    (λ c. follows_itself c (settled t said c) refl refl refl refl)
 
 module _ (s : State) (t : ℕ) (c : Call) (here : call_at s t ≡ Some c) where
   told : (k : ActResult) → GoesOn s.calls (slice_set s.calls t (Some (hears c k)))

@@ -86,7 +86,8 @@ stands_behind : (s u : State) (t : ℕ) (fair : Bool) (answer : Option CoreAnswe
     → IsStepped t fair answer s u → (v : ℕ) (c d : Call) → call_at s v ≡ Some c → call_at u v ≡ Some d
     → d.asked ≡ c.asked → MayStand 0 (stage_of d.asked) (is_timed d.asked) (core_stage 0 d.core)
 stands_behind s u t fair (Some answer) h plain x v c d was there asked = elim (cases_eq v t) [
-  | inl e ↦ absurd (none-some d (sym ((calls_lead.answers s u t fair answer h x).gone) ∙ ap (call_at u) (sym e) ∙ there))
+  | inl e ↦ absurd (none-some d (sym ((calls_lead.answers s u t fair answer h x).gone) ∙ ap (call_at u) (sym e)
+      ∙ there))
   | inr ne ↦ plain.stands v d (sym (calls_lead.answers_alone s u t fair answer x v ne) ∙ there)
 ]
 stands_behind s u t fair None h plain x v c d was there asked =

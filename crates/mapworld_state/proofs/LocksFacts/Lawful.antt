@@ -59,8 +59,8 @@ lawful-begins t shard call old new fit b =
 
 module _ (s u : State) (t : ℕ) (fair : Bool) (fits : FitsTogether s) (c : Call)
     (here : call_at s t ≡ Some c) where
-  -- One whose deadline has come comes back where nobody is in a section of its bucket, and takes itself out there, or finds that it
-  -- was taken.
+  -- One whose deadline has come comes back where nobody is in a section of its bucket, and takes itself out there, or
+  -- finds that it was taken.
   back_in : comes_late c.core ≡ true → open_at s (late_key c) ≡ None → (at : QueuePosition) → c.spot ≡ at
       → u ≡ came_back at s t c → IsStepped t fair None s u
   back_in comes free QueuePosition.Listed is e = steps.come_back s u t c fair fits here comes is free e
@@ -151,7 +151,8 @@ fit-ends t answer old new fit e =
     let x = lawful-ends t answer old new fit e in
     subst (λ (ds : List (DeskState (Unit {0}))). LocksFit (record { rows = new.rows; desks = ds })) (sym e.desks)
     (same_holds old fit new.rows (stepped_fits (state old.rows) (state new.rows) t false (Some answer) x)
-    (stepped_plain (state old.rows) (state new.rows) t false (Some answer) fit.fits fit.plain x) e.whole.kinds e.whole.threads
+    (stepped_plain (state old.rows) (state new.rows) t false (Some answer) fit.fits fit.plain x) e.whole.kinds
+    e.whole.threads
     e.holds)
 
 -- the first act of a call that is begun with it

@@ -106,8 +106,8 @@ asked_within asked is late at o (inr (inr ends)) w = ends_within asked is late a
 
 -- AT ITS END
 
--- A call with that aim, a try or not, with a deadline or without one, is answered so, and its thread holds so. A pending
--- writer that gives up behind its deadline gives its bit back, and so is answered as one that gives a hold up.
+-- A call with that aim, a try or not, with a deadline or without one, is answered so, and its thread holds so. A
+-- pending writer that gives up behind its deadline gives its bit back, and so is answered as one that gives a hold up.
 abbrev pub EndsSo : Aim → Bool → Bool → CoreAnswer → Option Mode → Type 0
 EndsSo (Gets m) tries timed Owned o = o ≡ Some m
 EndsSo (Gets m) tries timed Refused o = ((tries || timed) ≡ true) × (o ≡ None)

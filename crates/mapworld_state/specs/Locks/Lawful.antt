@@ -8,8 +8,9 @@ use Rattle.mapworld_state.specs.Locks.Fits.{LocksFit}
 use Rattle.mapworld_state.specs.Locks.Steps.{LockBegins, LockEnds, LockExpires, LockMoves}
 use Rattle.mapworld_state.specs.Locks.Views.{Shown}
 
--- A beginning, a step, a deadline and an answer of locks that fit leave what is said of them, are the steps of the rules
--- that the call's core names, and are paid for by the steps that were left, but for what a beginning and a deadline add.
+-- A beginning, a step, a deadline and an answer of locks that fit leave what is said of them, are the steps of the
+-- rules that the call's core names, and are paid for by the steps that were left, but for what a beginning and a
+-- deadline add.
 pub record LockStepsAreLawful : Type 0 where
   pub begins : (t shard : ℕ) (call : LockCall) (old new : Shown) → LocksFit old → LockBegins t shard call old new
       → IsBegun t shard call (state old.rows) (state new.rows)

@@ -4,7 +4,8 @@ use Rattle.parking_lot_protocol.specs.declared.act.CoreAnswer.{CoreAnswer}
 use Rattle.parking_lot_protocol.specs.declared.act.CoreAnswer.TheVariants.{Owned, Released}
 use Rattle.parking_lot_machine_calls.specs.declared.seat.Hold.{Hold}
 use Rattle.parking_lot_machine_calls.specs.declared.seat.Hold.TheVariants as hold
-use Rattle.parking_lot_machine.specs.CallLaws.Stages.{Asks, Frees, Over, Stage, Tries, Turns, freed, gained, kept, quits}
+use Rattle.parking_lot_machine.specs.CallLaws.Stages.{Asks, Frees, Over, Stage, Tries, Turns, freed, gained, kept}
+use Rattle.parking_lot_machine.specs.CallLaws.Stages.{quits}
 use Rattle.parking_lot_machine.specs.CallLaws.Stages.{turned}
 
 -- where calls begin

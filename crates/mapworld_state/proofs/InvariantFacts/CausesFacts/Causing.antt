@@ -76,7 +76,8 @@ refused-seen o recursive n (Core.LateRw p) so rw of_kind ready begun end = absur
 refused-seen o recursive n (Core.Upgrade c) so rw of_kind ready begun end = absurd cc
 refused-seen o recursive n (Core.Rw c) so rw of_kind ready begun end = by c.phase ready.1 begun end
   where
-    by : (p : RwPhase) → rw_keeps recursive n p → rw_begun p ≡ true → end_of (act_of p) ≡ Some Refused → has_seen_in p ≡ true
+    by : (p : RwPhase) → rw_keeps recursive n p → rw_begun p ≡ true → end_of (act_of p) ≡ Some Refused
+        → has_seen_in p ≡ true
     by (RwPhase.Refuses want) keeps h e = refl
     by (RwPhase.Finishes AfterWake.FreedShared) keeps h e = absurd cc
     by (RwPhase.Finishes AfterWake.FreedExclusive) keeps h e = absurd cc

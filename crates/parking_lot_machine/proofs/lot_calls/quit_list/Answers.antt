@@ -24,7 +24,8 @@ returns-clause-within g c =
     let in_it = c.requires.inside in (
       record in_it.0 { phase = Phase.Ended },
       ap (λ (n : Machine). section_of n c.args.thread) (returns-clause-out g c)
-          ∙ own_section (in_phase (given_up m c.args.thread c.args.key) c.args.key Phase.Ended) c.args.thread c.args.key (record in_it.0 { phase = Phase.Ended }) in_it.1
+          ∙ own_section (in_phase (given_up m c.args.thread c.args.key) c.args.key Phase.Ended) c.args.thread
+          c.args.key (record in_it.0 { phase = Phase.Ended }) in_it.1
           (now_phase (given_up m c.args.thread c.args.key) c.args.key in_it.0 Phase.Ended in_it.2),
       in_it.3,
     )

@@ -26,7 +26,10 @@ returns-clause-within g c =
     let in_it = c.requires.inside in (
       record in_it.0 { phase = Phase.Ended },
       ap (λ (n : Machine). section_of n c.args.thread) (returns-clause-runs g c)
-          ∙ own_section (in_phase runs c.args.key Phase.Ended) c.args.thread c.args.key (record in_it.0 { phase = Phase.Ended }) in_it.1
+          ∙ own_section (in_phase runs c.args.key Phase.Ended) c.args.thread c.args.key (record in_it.0 {
+            phase =
+                Phase.Ended;
+          }) in_it.1
           (now_phase runs c.args.key in_it.0 Phase.Ended in_it.2),
       in_it.3,
     )
@@ -37,5 +40,8 @@ returns-clause-store g c =
     let runs : Machine = record m { places = slice_set m.places c.args.thread (Some Running) } in
     let in_it = c.requires.inside in
     ap (λ n. step_fault may_store n c.args.thread) (returns-clause-runs g c)
-    ∙ may_step (in_phase runs c.args.key Phase.Ended) c.args.thread c.args.key (record in_it.0 { phase = Phase.Ended }) may_store in_it.1
+    ∙ may_step (in_phase runs c.args.key Phase.Ended) c.args.thread c.args.key (record in_it.0 {
+      phase =
+          Phase.Ended;
+    }) may_store in_it.1
     (now_phase runs c.args.key in_it.0 Phase.Ended in_it.2) refl

@@ -1,4 +1,5 @@
-use Rattle.std.proofs.Common.{◌≡◌, ℕ, suc, ◌+◌, Bool, List, cond, nat_lt, replicate, Option, Some, ap, sym, ◌∙◌, refl, arith}
+use Rattle.std.proofs.Common.{◌≡◌, ℕ, suc, ◌+◌, Bool, List, cond, nat_lt, replicate, Option, Some, ap, sym, ◌∙◌, refl}
+use Rattle.std.proofs.Common.{arith}
 use Rattle.parking_lot_core_model.specs.Buckets.{buckets_for, threads_with}
 use Rattle.parking_lot_core_model.specs.declared.place.Place.{Place}
 use Rattle.parking_lot_core_model.specs.declared.place.Place.TheVariants.{Running}

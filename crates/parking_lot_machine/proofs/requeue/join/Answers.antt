@@ -52,7 +52,8 @@ append-requires g c = record {
 -- once it has joined
 has_joined : (now entered checked appended : Machine) (thread key : ℕ) → entered ≡ opened now (Some thread) key
     → ((s : Section) → section_of entered thread ≡ Some s → checked ≡ in_phase entered s.key phase.Valid)
-    → ((s : Section) → section_of checked thread ≡ Some s → appended ≡ joined (in_phase checked s.key phase.Joined) thread
+    → ((s : Section) → section_of checked thread ≡ Some s
+    → appended ≡ joined (in_phase checked s.key phase.Joined) thread
     s.key (record { 0 = 0 }) false)
     → appended ≡ joined (in_phase (in_phase (opened now (Some thread) key) key phase.Valid) key phase.Joined) thread key
     (record { 0 = 0 }) false

@@ -39,7 +39,8 @@ returns g c =
     let at = lot_never_refuses.inside _ c.args.thread c.args.call l.0 (Joins c.args.token) c.self.invariant.0.lots
     (held c.args.thread c.args.call c.self.view_is c.requires.here) l.2 in
     let done : State → Call → Machine → State = λ s next lot. with_lot (with_call s c.args.thread next) lot in
-    let put : Machine → ℕ → Machine = λ lot key. joined (in_phase lot key phase.Joined) c.args.thread key c.args.token false
+    let put : Machine → ℕ → Machine = λ lot key. joined (in_phase lot key phase.Joined) c.args.thread key c.args.token
+    false
     in (
       l.0,
       l.2,

@@ -45,7 +45,8 @@ returns g c =
     let s : State = state c.args.self.now in
     let done : State → Call → Machine → State = λ s next m. with_lot (with_call s c.args.thread next) m in
     let out : Machine → _ → Machine = λ m k. in_phase (given_up m c.args.thread k) k phase.Ended in
-    let left : Machine → _ → Bool → Bool → Machine = λ m k b p. cond (b || p) (stored (out m k) k (sign false)) (out m k)
+    let left : Machine → _ → Bool → Bool → Machine =
+    λ m k b p. cond (b || p) (stored (out m k) k (sign false)) (out m k)
     in
     let p : Bool = is_pending c.args.call.core in
     let is_key = c.key-key.ensures ∙ ap (key_of c.args.call) c.late_list.ensures in

@@ -74,7 +74,8 @@ returns g c =
     ∙ ap (λ w. done s (all s.calls next (told_of token)) w (stored s.lot key token))
     (c.of.ensures ∙ ap (change_of c.args.change) c.word-word.ensures)
     ∙ ap (λ said. done s (all s.calls next (told_of said)) word (stored s.lot key said)) c.wake_token-token.ensures
-    ∙ ap (λ (d : Call). done s (all s.calls d (told_of (core_tells d.core))) word (stored s.lot key (core_tells d.core)))
+    ∙ ap (λ (d : Call). done s (all s.calls d (told_of (core_tells d.core))) word
+    (stored s.lot key (core_tells d.core)))
     c.told-next.ensures
 
 -- src/acts.rt:168:5
