@@ -1,6 +1,7 @@
 pub mod Listing
 pub mod Phases
 pub mod Acting
+pub mod Sections
 pub mod Owning
 pub mod OwnActs
 pub mod Ending

@@ -2,5 +2,6 @@
 //! [`condvar`]. Each runs calls of many threads by any schedule, one atomic step at a time.
 #![tactic(auto)]
 
+pub mod buckets;
 pub mod condvar;
 pub mod once;

@@ -1,6 +1,8 @@
 -- What a thread does at a variable alone leaves a machine whole: an act of its own there, or being told of one.
-use Rattle.std.proofs.Common.{◌≡◌, ◌≢◌, ◌⊎◌, ◌||◌, inl, inr, ℕ, zero, suc, ◌+◌, ◌==◌, ◌<◌, Bool, true, false, not, cond}
-use Rattle.std.proofs.Common.{◌&&◌, is_some, List, [], ◌∷◌, length, Option, Some, None, slice_get, slice_set, refl, sym}
+use Rattle.std.proofs.Common.{◌≡◌, ◌≢◌, ◌⊎◌, ◌||◌, inl, inr, ℕ, zero, suc, ◌+◌, ◌==◌, ◌<◌, Bool, true, false, not}
+use Rattle.std.proofs.Common.{cond}
+use Rattle.std.proofs.Common.{is_some, option_map, List, [], ◌∷◌, length, Option, Some, None, slice_get, slice_set}
+use Rattle.std.proofs.Common.{refl, sym}
 use Rattle.std.proofs.Common.{ap, ◌∙◌, subst, eqb-true}
 use Rattle.std.specs.Option.{option_map_or, unwrap_or}
 use Rattle.std.proofs.lemmas.List.{length-set}
@@ -12,74 +14,121 @@ use Rattle.parking_lot_protocol_waits.specs.declared.notify_core.NotifyPhase.The
 use Rattle.parking_lot_machine_sides.specs.declared.condvar.open_call.Core.{Core}
 use Rattle.parking_lot_machine_sides.specs.declared.condvar.open_call.Core.TheVariants as core
 use Rattle.parking_lot_machine_sides.specs.declared.condvar.open_call.OpenCall.{OpenCall}
-use Rattle.parking_lot_machine_sides.specs.Condvar.Machines.{State as Var, call_in as var_call_in, may_step}
+use Rattle.parking_lot_machine_sides.specs.Condvar.Machines.{State as Var, call_in as var_call_in, can_step, may_step}
+use Rattle.parking_lot_machine_sides.specs.Condvar.OwnSteps.{beside_after_notify, beside_after_wait}
 use Rattle.parking_lot_machine_sides.specs.Condvar.OwnSteps.{inside_after_notify, inside_after_wait, stepped_by}
-use Rattle.parking_lot_machine_sides.specs.Condvar.Turns.{enters, enters_by, is_own, is_own_by, notify_enters}
-use Rattle.parking_lot_machine_sides.specs.Condvar.Turns.{wait_enters, wait_is_own}
+use Rattle.parking_lot_machine_sides.specs.Condvar.Turns.{enters, enters_beside, enters_beside_by, enters_by, is_own}
+use Rattle.parking_lot_machine_sides.specs.Condvar.Turns.{is_own_by, notify_enters, notify_enters_beside, wait_enters}
+use Rattle.parking_lot_machine_sides.specs.Condvar.Turns.{wait_is_own}
 use Rattle.parking_lot_machine_sides.proofs.CondvarFacts.Slots.{call_here, within}
 use Rattle.parking_lot_machine.specs.Rows.{Rows, call_at as row_call_at, state}
 use Rattle.parking_lot_machine_waits.specs.declared.seat.Seat.{Seat}
 use Rattle.parking_lot_machine_waits.specs.declared.turn.Turn.TheVariants as turn
-use Rattle.parking_lot_machine_waits.specs.Joint.{Joint, back_number, call_at, call_in, front_number, is_open_at_locks}
-use Rattle.parking_lot_machine_waits.specs.Joint.{is_open_at_variables, nowhere, number, var_at, var_goes}
+use Rattle.parking_lot_machine_waits.specs.Joint.{Joint, back_number, bucket_in, buckets, call_at, call_in}
+use Rattle.parking_lot_machine_waits.specs.Joint.{enters_mutex, enters_var, front_number, is_kept, is_open_in, is_shut}
+use Rattle.parking_lot_machine_waits.specs.Joint.{is_that, keeps, nowhere, number, shuts_out, var_at, var_goes}
 use Rattle.parking_lot_machine_waits.specs.Turns.{mutex_of, notify_turn}
-use Rattle.parking_lot_machine_waits.specs.Whole.{AtMutex, IsSo, IsWhole, Notifies, Waits, back_of, front_of, named}
+use Rattle.parking_lot_machine_waits.specs.Whole.{Apart, AtMutex, IsSo, IsWhole, Notifies, Waits, back_of, front_of}
+use Rattle.parking_lot_machine_waits.specs.Whole.{named}
 use Rattle.parking_lot_machine_waits.proofs.Hearing.{both_true}
+use Rattle.parking_lot_machine_waits.proofs.Keepers.{Fewer, which_kept}
 use Rattle.parking_lot_machine_waits.proofs.Keeping.{Anew, AreShut, is, is_not, low_at, now_open, rows_same, seats_at}
 use Rattle.parking_lot_machine_waits.proofs.Keeping.{var_elsewhere, var_here, var_shut, vars_at, whole_still}
 use Rattle.parking_lot_machine_waits.proofs.Seating.{anew_free, goes_on}
 
 -- WHICH SECTIONS ARE OPEN
 
--- none that wasn't
-abbrev pub Fewer : Option ℕ → Option ℕ → Type 0
-Fewer o p = is_some p ≡ true → is_some o ≡ true
+-- It enters no section; or it does, and the mutex beside is then the one that it enters with.
+abbrev pub Opens : Bool → Option ℕ → Option ℕ → Option ℕ → Option ℕ → Option ℕ → Type 0
+Opens enters with o beside p after = ((enters ≡ true) × (after ≡ with))
+    ⊎ (is_some p ≡ true → (is_some o ≡ true) × (after ≡ beside))
 
-wait_opens : (listed : Bool) (t : ℕ) (p : WaitPhase) (o : Option ℕ) → wait_is_own listed p ≡ true
-    → (wait_enters listed p ≡ true) ⊎ Fewer o (inside_after_wait t p o)
-wait_opens listed t (w.Enters k) o own = inl refl
-wait_opens listed t (w.Expires k) o own = inl own
-wait_opens listed t w.Retreats o own = inr (λ e. absurd cc)
-wait_opens listed t (w.Rests k) o own = inr (λ e. absurd cc)
-wait_opens listed t (w.Leaves here) o own = inr (λ e. absurd cc)
-wait_opens listed t p o own = inr (λ e. e)
+wait_opens : (listed : Bool) (t : ℕ) (p : WaitPhase) (o beside : Option ℕ) → wait_is_own listed p ≡ true
+    → Opens (wait_enters listed p) None o beside (inside_after_wait t p o) (beside_after_wait p beside)
+wait_opens listed t (w.Enters k) o beside own = inl (refl, refl)
+wait_opens listed t (w.Expires k) o beside own = inl (own, refl)
+wait_opens listed t w.Retreats o beside own = inr (λ e. absurd cc)
+wait_opens listed t (w.Rests k) o beside own = inr (λ e. absurd cc)
+wait_opens listed t (w.Leaves here) o beside own = inr (λ e. absurd cc)
+wait_opens listed t p o beside own = inr (λ e. (e, refl))
 
-notify_opens : (t : ℕ) (p : NotifyPhase) (o : Option ℕ) → (notify_enters p ≡ true) ⊎ Fewer o (inside_after_notify t p o)
-notify_opens t (n.Enters all word) o = inl refl
-notify_opens t (n.Leaves notice) o = inr (λ e. absurd cc)
-notify_opens t p o = inr (λ e. e)
+pub notify_opens : (t : ℕ) (p : NotifyPhase) (o beside : Option ℕ)
+    → Opens (notify_enters p) (notify_enters_beside p) o beside (inside_after_notify t p o)
+    (beside_after_notify p beside)
+notify_opens t (n.Enters all word) o beside = inl (refl, refl)
+notify_opens t (n.Leaves notice) o beside = inr (λ e. absurd cc)
+notify_opens t p o beside = inr (λ e. (e, refl))
 
-call_opens : (x : Var) (t : ℕ) (c : OpenCall) (k : Core) → is_own_by c.listed k ≡ true → (enters_by c.listed k ≡ true)
-    ⊎ Fewer x.inside (stepped_by k x t c).inside
-call_opens x t c (core.Wait k) own = wait_opens c.listed t k.phase x.inside own
-call_opens x t c (core.Notify k) own = notify_opens t k.phase x.inside
+call_opens : (x : Var) (t : ℕ) (c : OpenCall) (k : Core) → is_own_by c.listed k ≡ true
+    → Opens (enters_by c.listed k) (enters_beside_by k) x.inside x.beside (stepped_by k x t c).inside
+    (stepped_by k x t c).beside
+call_opens x t c (core.Wait k) own = wait_opens c.listed t k.phase x.inside x.beside own
+call_opens x t c (core.Notify k) own = notify_opens t k.phase x.inside x.beside
 
 module _ (i j : Joint) (v : ℕ) (x y : Var) (h : IsWhole i) (at : var_at i v ≡ Some x)
     (vars : j.vars ≡ slice_set i.vars v (Some y)) where
-  pub fewer_shut : Fewer x.inside y.inside → is_open_at_locks j ≡ is_open_at_locks i → AreShut j
-  fewer_shut fewer same = var_shut i j h v x y at vars fewer
-      (elim h.sections [ inl e ↦ inl (same ∙ e) | inr e ↦ inr e ])
+  same_apart : (same : j.rows ≡ i.rows) → Apart (state j.rows) i
+  same_apart same = subst (λ (r : Rows). Apart (state r) i) (sym same) h.sections
 
-  shut_out : (enters a b : Bool) → not (enters && (a || b)) ≡ true → enters ≡ true → (a ≡ false) × (b ≡ false)
-  shut_out true true b e f = absurd cc
-  shut_out true false true e f = absurd cc
-  shut_out true false false e f = (refl, refl)
-  shut_out false a b e f = absurd cc
+  same_buckets : (same : j.rows ≡ i.rows) → buckets j ≡ buckets i
+  same_buckets same = ap (λ (r : Rows). (state r).lot.buckets) same
 
-  -- A thread has made its own act there, which enters no section beside another.
+  pub fewer_shut : Fewer x y → j.rows ≡ i.rows → AreShut j
+  fewer_shut fewer same = var_shut i j h (same_buckets same) v x y at vars fewer (same_apart same)
+
+  -- where it isn't kept out, no section is open in either bucket
+  neither_out : (a b : Bool) → not (a || b) ≡ true → (a ≡ false) × (b ≡ false)
+  neither_out true b e = absurd cc
+  neither_out false true e = absurd cc
+  neither_out false false e = (refl, refl)
+
+  shut_there : (o : Option ℕ) (b : ℕ) → shuts_out i o ≡ false → is_that o b ≡ true
+      → (is_open_in (state i.rows) b ≡ false) × (is_kept i b ≡ false)
+  shut_there None b e f = absurd cc
+  shut_there (Some a) b e f =
+      both_out (is_open_in (state i.rows) b) (is_kept i b)
+      (subst (λ (k : ℕ). is_shut i k ≡ false) (sym (eqb-true b a f)) e)
+    where
+      both_out : (p q : Bool) → (p || q) ≡ false → (p ≡ false) × (q ≡ false)
+      both_out true q e = absurd cc
+      both_out false q e = (refl, e)
+
+  entered : (b : Bool) → b ≡ true → cond b (Some (bucket_in (buckets i) v)) None ≡ Some (bucket_in (buckets i) v)
+  entered true e = refl
+  entered false e = absurd cc
+
+  -- A thread has made its own act there, which enters no bucket in which a section is open.
   pub acted_shut : (t : ℕ) (c : OpenCall) → call_in (Some x) t ≡ Some c → y ≡ stepped_by c.core x t c
-      → var_goes i t c (Some x) ≡ true → is_open_at_locks j ≡ is_open_at_locks i → AreShut j
+      → var_goes i v t c (Some x) ≡ true → j.rows ≡ i.rows → AreShut j
   acted_shut t c here became goes same = by (call_opens x t c c.core own)
     where
       own : is_own c ≡ true
       own = (both_true _ _ (ap (λ (o : Option OpenCall). option_map_or (may_step x.inside) o false) (sym here)
           ∙ (both_true _ _ goes).0)).0
 
-      by : (enters c ≡ true) ⊎ Fewer x.inside (stepped_by c.core x t c).inside → AreShut j
-      by (inl e) =
-          let out = shut_out (enters c) (is_open_at_locks i) (is_open_at_variables i) (both_true _ _ goes).1 e in
-          now_open i j v x (Some y) at vars (same ∙ out.0) out.1
-      by (inr fewer) = fewer_shut (subst (λ (z : Var). Fewer x.inside z.inside) (sym became) fewer) same
+      out : (shuts_out i (enters_var (buckets i) v c) ≡ false) × (shuts_out i (enters_mutex (buckets i) c) ≡ false)
+      out = neither_out (shuts_out i (enters_var (buckets i) v c)) (shuts_out i (enters_mutex (buckets i) c))
+          (both_true (can_step x t)
+          (not (shuts_out i (enters_var (buckets i) v c) || shuts_out i (enters_mutex (buckets i) c))) goes).1
+
+      here_shut : enters c ≡ true → shuts_out i (Some (bucket_in (buckets i) v)) ≡ false
+      here_shut e = ap (shuts_out i) (sym (entered (enters c) e)) ∙ out.0
+
+      free : (enters c ≡ true) × ((stepped_by c.core x t c).beside ≡ enters_beside c) → (b : ℕ)
+          → keeps (buckets i) v (Some y) b ≡ true → (is_open_in (state i.rows) b ≡ false) × (is_kept i b ≡ false)
+      free opened b k = elim (which_kept (buckets i) v y b k) [
+        | inl that ↦ shut_there (Some (bucket_in (buckets i) v)) b (here_shut opened.0) that
+        | inr that ↦ shut_there (enters_mutex (buckets i) c) b out.1
+            (ap (λ (o : Option ℕ). is_that (option_map (bucket_in (buckets i)) o) b)
+            (sym (ap (λ (z : Var). z.beside) became ∙ opened.1)) ∙ that)
+      ]
+
+      by : Opens (enters c) (enters_beside c) x.inside x.beside (stepped_by c.core x t c).inside
+          (stepped_by c.core x t c).beside → AreShut j
+      by (inl opened) = now_open i j h (same_buckets same) v x (Some y) at vars
+          (λ b k. let (locks, vars) = free opened b k in
+          (ap (λ (r : Rows). is_open_in (state r) b) same ∙ locks, vars)) (same_apart same)
+      by (inr fewer) = fewer_shut (subst (λ (z : Var). Fewer x z) (sym became) fewer) same
 
 -- WHERE A WAIT GOES ON
 

@@ -1,6 +1,6 @@
 -- The turns of a thread at a variable alone: its own acts there, and hearing of one that is made.
-use Rattle.parking_lot_machine_waits.specs.Joint.{any_section}
-use Rattle.std.proofs.Common.{◌≡◌, ◌≢◌, ℕ, ◌==◌, Bool, true, false, not, cond, Option, Some, None, slice_set, refl, sym}
+use Rattle.std.proofs.Common.{◌≡◌, ◌≢◌, ℕ, ◌==◌, Bool, true, false, not, cond, Option, Some, None, slice_set, refl}
+use Rattle.std.proofs.Common.{sym}
 use Rattle.std.proofs.Common.{ap, ◌∙◌, subst}
 use Rattle.std.proofs.lemmas.Option.{same_Some}
 use Rattle.parking_lot_protocol_waits.specs.declared.wait_act.WaitAnswer.{WaitAnswer}
@@ -22,7 +22,8 @@ use Rattle.parking_lot_machine_sides.specs.declared.condvar.outside.Outside.TheV
 use Rattle.parking_lot_machine_sides.specs.Condvar.Calls.{reply_by, reply_in_notify, reply_in_wait, is_of_all}
 use Rattle.parking_lot_machine_sides.specs.Condvar.Machines.{State as Var, is_left}
 use Rattle.parking_lot_machine_sides.specs.Condvar.Outsides.{heard, told_by}
-use Rattle.parking_lot_machine_sides.specs.Condvar.OwnSteps.{notify_goes, notify_sees, stepped_by, wait_goes, wait_sees}
+use Rattle.parking_lot_machine_sides.specs.Condvar.OwnSteps.{notify_goes, notify_sees, stepped_by, wait_goes}
+use Rattle.parking_lot_machine_sides.specs.Condvar.OwnSteps.{wait_sees}
 use Rattle.parking_lot_machine.specs.Rows.{State, call_at as row_call_at, state}
 use Rattle.parking_lot_machine_waits.specs.declared.turn.Turn.{Turn}
 use Rattle.parking_lot_machine_waits.specs.declared.turn.Turn.TheVariants as turn
@@ -32,8 +33,9 @@ use Rattle.parking_lot_machine_waits.specs.Turns.{acts_or, mutex_of, notify_turn
 use Rattle.parking_lot_machine_waits.specs.Turns.{wait_turn}
 use Rattle.parking_lot_machine_waits.specs.Whole.{Away, IsSo, IsWhole, Notifies, Stands, Waits, back_at_end, back_of}
 use Rattle.parking_lot_machine_waits.specs.Whole.{front_at_end, front_of, named, woken_by}
-use Rattle.parking_lot_machine_waits.proofs.ActsKept.{Fewer, Onto, acted_shut, fewer_shut, gone, goes, notifies_on}
+use Rattle.parking_lot_machine_waits.proofs.ActsKept.{Onto, acted_shut, fewer_shut, gone, goes, notifies_on}
 use Rattle.parking_lot_machine_waits.proofs.ActsKept.{over, rebuilt, waits_on}
+use Rattle.parking_lot_machine_waits.proofs.Keepers.{Fewer}
 use Rattle.parking_lot_machine_waits.proofs.Keeping.{AreShut, place_in}
 
 -- AN ACT OF ITS OWN
@@ -162,7 +164,7 @@ module _ (i : Joint) (t v : ℕ) (c : OpenCall) (x y : Var) (h : IsWhole i) (her
 -- It makes an act there.
 module _ (i j : Joint) (t v : ℕ) (c : OpenCall) (reply : Option CondvarReply) (h : IsWhole i)
     (here : call_at i v t ≡ Some c) (rows : j.rows ≡ i.rows) (seats : j.seats ≡ freed t reply i.seats) where
-  acts_in : (o p : Option Var) → var_at i v ≡ o → turn_of c ≡ turn.Acts → var_goes i t c o ≡ true → ActsIn t reply o p
+  acts_in : (o p : Option Var) → var_at i v ≡ o → turn_of c ≡ turn.Acts → var_goes i v t c o ≡ true → ActsIn t reply o p
       → j.vars ≡ slice_set i.vars v p → IsWhole j
   acts_in None p at is can acts vars = absurd acts
   acts_in (Some x) None at is can acts vars = absurd acts
@@ -183,13 +185,13 @@ module _ (i j : Joint) (t v : ℕ) (c : OpenCall) (reply : Option CondvarReply) 
       became = acts.became ∙ ap (λ (d : OpenCall). stepped_by d.core x t d) same
 
       shut : (k : Joint) → k.vars ≡ slice_set i.vars v (Some y) → k.rows ≡ i.rows → AreShut k
-      shut k vars rows = acted_shut i k v x y h at vars t c there became can (ap (λ r. any_section (state r)) rows)
+      shut k vars rows = acted_shut i k v x y h at vars t c there became can rows
 
       finish : (r : Option CondvarReply) → After i t v c x y h here at r → j.seats ≡ freed t r i.seats → IsWhole j
       finish None z seats = rebuilt j _ _ _ rows vars seats z
       finish (Some r) z seats = rebuilt j _ _ _ rows vars seats z
 
-  pub acts_keep : turn_of c ≡ turn.Acts → var_goes i t c (var_at i v) ≡ true → ActsAt t v reply i j → IsWhole j
+  pub acts_keep : turn_of c ≡ turn.Acts → var_goes i v t c (var_at i v) ≡ true → ActsAt t v reply i j → IsWhole j
   acts_keep is can (p, acts, vars) = acts_in (var_at i v) p refl is can acts vars
 
 -- HEARING OF AN ACT ELSEWHERE
@@ -258,7 +260,7 @@ module _ (i j : Joint) (t v : ℕ) (c : OpenCall) (h : IsWhole i) (here : call_a
       rebuilt j _ _ _ rows vars seats
       (core_hears i t v c x y h here at
       (fewer_shut i (goes i t v c x y h here at) v x y h at refl
-      (subst (λ (z : Var). Fewer x.inside z.inside) (sym became) (λ e. e)) refl) c.core (h.stands v t c here) is
+      (subst (λ (z : Var). Fewer x z) (sym became) (λ e. (e, refl))) refl) c.core (h.stands v t c here) is
       (ap (λ (z : Var). z.calls) became))
     where
       same : hears.call ≡ c

@@ -26,7 +26,7 @@ use Rattle.parking_lot_machine.specs.Rows.{State, call_at}
 use Rattle.parking_lot_machine_calls.specs.Stances.{core_act}
 use Rattle.parking_lot_rules.proofs.Slots.{set_there}
 use Rattle.parking_lot_machine_sides.proofs.CondvarFacts.Slots.{within}
-use Rattle.parking_lot_machine_waits.specs.Joint.{core_enters}
+use Rattle.parking_lot_machine_waits.specs.Joint.{call_enters}
 use Rattle.parking_lot_machine_waits.specs.JointSteps.{is_owned}
 use Rattle.parking_lot_machine_waits.specs.Turns.{is_at_mutex}
 use Rattle.parking_lot_machine_waits.proofs.Ending.{owned_after}
@@ -84,7 +84,7 @@ pub asks_again : (s u : State) (t : ℕ) (fair : Bool) (a : CoreAnswer) (c : Cal
     → FitsTogether s → call_at s t ≡ Some c → is_at_mutex c.core ≡ true → is_owned a ≡ false
     → answer ≡ Some a → IsStepped t fair answer s u → may_begin u t c.lock call.Lock ≡ true
 asks_again s u t fair a c answer h here at loses is x =
-    let over : Over t a s u = subst (λ (b : Option CoreAnswer). Goes b (core_enters x.call.core) t s u) is
+    let over : Over t a s u = subst (λ (b : Option CoreAnswer). Goes b (call_enters s.lot.buckets x.call) t s u) is
     (stepped_goes s u t fair answer h x) in
     let same : c ≡ over.call = same_Some c over.call (sym here ∙ over.here) in
     subst (λ (d : Call). may_begin u t d.lock call.Lock ≡ true) (sym same)

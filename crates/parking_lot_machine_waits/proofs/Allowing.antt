@@ -1,6 +1,4 @@
 -- Where a machine is whole, what a step needs at the locks is so.
-use Rattle.parking_lot_machine_waits.specs.Joint.{is_open_at_locks}
-use Rattle.parking_lot_machine_waits.proofs.AnySections.{none_of_key}
 use Rattle.parking_lot_machine.specs.Rows.{first_key}
 use Rattle.std.proofs.Common.{◌≡◌, ◌≢◌, ◌||◌, inl, inr, ℕ, zero, suc, ◌+◌, ◌-◌, ◌*◌, ◌<◌, Bool, true, false, not, cond}
 use Rattle.std.proofs.Common.{◌&&◌, is_some, is_none, List, [], ◌∷◌, length, Option, Some, None, slice_get, refl, sym}
@@ -36,12 +34,13 @@ use Rattle.parking_lot_machine_calls.specs.Calls.{takes}
 use Rattle.parking_lot_machine.specs.Machines.{may_begin}
 use Rattle.parking_lot_machine.specs.RowFits.{FitsTogether}
 use Rattle.parking_lot_machine_calls.specs.CallKinds.{IsOfKind}
-use Rattle.parking_lot_machine.specs.Rows.{State, call_at as row_call_at, state}
-use Rattle.parking_lot_machine_waits.proofs.Notifying.{Marking, is_moving, marking}
+use Rattle.parking_lot_machine.specs.Rows.{State, call_at as row_call_at, open_at, state}
+use Rattle.parking_lot_machine_waits.proofs.Notifying.{Marking, is_moving, marking, marks_knows}
 use Rattle.parking_lot_machine_waits.specs.declared.turn.Turn.{Turn}
 use Rattle.parking_lot_machine_waits.specs.declared.turn.Turn.TheVariants as turn
-use Rattle.parking_lot_machine_waits.specs.Joint.{Joint, back_number, call_at, call_in, front_number, is_entered}
-use Rattle.parking_lot_machine_waits.specs.Joint.{seat_at, var_at}
+use Rattle.parking_lot_machine_waits.specs.Joint.{Joint, back_number, bucket_in, buckets, call_at, call_in}
+use Rattle.parking_lot_machine_waits.specs.Joint.{front_number, is_entered, keeps, seat_at, var_at}
+use Rattle.parking_lot_machine_waits.proofs.Keepers.{both_ways, keeps_beside, kept}
 use Rattle.parking_lot_machine_waits.specs.JointLaws.{PartsFit}
 use Rattle.parking_lot_machine_waits.specs.JointSteps.{KnownIn}
 use Rattle.parking_lot_machine_waits.specs.Ready.{call_is_ready, is_ready, may_move, may_move_all, seat_is_ready}
@@ -167,10 +166,6 @@ any_of f (y ∷ ys) (suc i) x at is = later (f y) (any_of f ys i x at is)
     later true e = refl
     later false e = e
 
-not_open : {X : Type 0} (b : Bool) → b ≡ true → b ≡ false → X
-not_open true e f = absurd cc
-not_open false e f = absurd cc
-
 same_thread : (o : Option ℕ) (t u : ℕ) → is_the o t ≡ true → is_the o u ≡ true → t ≡ u
 same_thread None t u e f = absurd cc
 same_thread (Some v) t u e f = sym (eqb-true v t e) ∙ eqb-true v u f
@@ -182,21 +177,19 @@ has_entered x t e = go x.inside e
     go None e = absurd cc
     go (Some v) e = refl
 
-in_var : (vars : List (Option Var)) (v : ℕ) (x : Var) → option_and_then (λ (o : Option Var). o) (slice_get vars v)
-    ≡ Some x → slice_get vars v ≡ Some (Some x)
-in_var vars v x e = go (slice_get vars v) refl
-  where
-    go : (o : Option (Option Var)) → slice_get vars v ≡ o → slice_get vars v ≡ Some (Some x)
-    go None is = absurd (none-some x (sym (ap (option_and_then (λ (o : Option Var). o)) is) ∙ e))
-    go (Some y) is = is ∙ ap Some (sym (ap (option_and_then (λ (o : Option Var). o)) is) ∙ e)
-
--- where a section of a variable is open, none of a lock is
-pub locks_closed : (j : Joint) (v t : ℕ) (x : Var) → IsWhole j → var_at j v ≡ Some x → is_the x.inside t ≡ true
-    → is_open_at_locks j ≡ false
-locks_closed j v t x h here inside = elim h.sections [
-  | inl e ↦ e
-  | inr e ↦ not_open _ (any_of is_entered j.vars v (Some x) (in_var j.vars v x here) (has_entered x t inside)) e
+-- while a notification is in the section, none of a lock is open in its mutex's bucket
+lock_closed : (j : Joint) (v t : ℕ) (x : Var) (lock : ℕ) → IsWhole j → var_at j v ≡ Some x → is_the x.inside t ≡ true
+    → x.beside ≡ Some lock → open_at (state j.rows) (first_key lock) ≡ None
+lock_closed j v t x lock h here inside beside = elim (h.sections (bucket_in (buckets j) lock)) [
+  | inl e ↦ nobody (open_at (state j.rows) (first_key lock)) e
+  | inr e ↦ both_ways _ (kept j v (bucket_in (buckets j) lock)
+      (ap (λ (o : Option Var). keeps (buckets j) v o (bucket_in (buckets j) lock)) here
+      ∙ keeps_beside (buckets j) v x lock (has_entered x t inside) beside)) e
 ]
+  where
+    nobody : (o : Option Section) → is_some o ≡ false → o ≡ None
+    nobody None e = refl
+    nobody (Some s) e = absurd cc
 
 number_low : (n t : ℕ) (second : Bool) → t < n → cond second (n + t) t < 2 * n
 number_low n t true low = omega (arith, low)
@@ -257,9 +250,9 @@ module _ (j : Joint) (h : IsWhole j) (v : ℕ) (x : Var) (at : var_at j v ≡ So
           (known.0.sound.agrees u (phase_in o) (slice_get-map phase_in x.calls u ∙ ap (option_map phase_in) is))
           inside other
 
-  may_be_moved : (u : ℕ) → 0 < (state j.rows).lot.buckets → is_open_at_locks j ≡ false → Waiter x u
+  may_be_moved : (u : ℕ) → open_at (state j.rows) (first_key (x.word - 1)) ≡ None → Waiter x u
       → may_move j (x.word - 1) u ≡ true
-  may_be_moved u some closed y =
+  may_be_moved u free y =
       let stands : Waits j u y.call y.phase = subst (Stands j u y.call) y.core
       (h.stands v u y.call (here_too u y.call y.here)) in
       let low = thread_low u y.call y.here in
@@ -269,15 +262,15 @@ module _ (j : Joint) (h : IsWhole j) (v : ℕ) (x : Var) (at : var_at j v ≡ So
       (subst (λ (a : AtMutex). IsSo a (state j.rows) (back_number j u) (mutex_of y.call.call)) y.away stands.back) in
       both _ _ (lt-ltb u _ low)
       (both _ _ (subst (λ m. may_begin (state j.rows) (back_number j u) m call.Lock ≡ true) (omega (arith, y.word))
-      may) (ap (λ (o : Option Section). not (is_some o))
-      (none_of_key (state j.rows).lot (first_key (x.word - 1)) some closed)))
+      may) (ap (λ (o : Option Section). not (is_some o)) free))
 
   -- whoever stands in its list may be moved, where a notification is in the section
-  all_may : (t : ℕ) → 0 < (state j.rows).lot.buckets → is_the x.inside t ≡ true
+  all_may : (t : ℕ) → is_the x.inside t ≡ true → x.beside ≡ Some (x.word - 1)
       → ((u : ℕ) → 0 < occurs u x.queue → u ≢ t)
       → list_all (may_move j (x.word - 1)) x.queue ≡ true
-  all_may t some_bucket inside others = all_of (may_move j (x.word - 1)) x.queue
-      (λ u some. may_be_moved u some_bucket (locks_closed j v t x h at inside) (waiter t u inside (others u some) some))
+  all_may t inside beside others = all_of (may_move j (x.word - 1)) x.queue
+      (λ u some. may_be_moved u (lock_closed j v t x (x.word - 1) h at inside beside)
+      (waiter t u inside (others u some) some))
 
   -- a notification itself doesn't stand there
   pub not_itself : (t : ℕ) (c : OpenCall) → var_call_at x t ≡ Some c → (m : Marking c) → (u : ℕ) → 0 < occurs u x.queue
@@ -300,11 +293,12 @@ module _ (j : Joint) (h : IsWhole j) (v : ℕ) (x : Var) (at : var_at j v ≡ So
         notify_waits (n.Marks m.all),
       ))
 
-  moves_all : (t : ℕ) (c : OpenCall) → 0 < (state j.rows).lot.buckets → var_call_at x t ≡ Some c → Marking c
+  moves_all : (t : ℕ) (c : OpenCall) → var_call_at x t ≡ Some c → Marking c
       → list_all (may_move j (x.word - 1)) x.queue
       ≡ true
-  moves_all t c some here m =
-      all_may t some (sym (known.0.seated t c here).section ∙ ap (λ (k : Core). is_inside_by c.listed k) m.is)
+  moves_all t c here m =
+      all_may t (sym (known.0.seated t c here).section ∙ ap (λ (k : Core). is_inside_by c.listed k) m.is)
+      (marks_knows x t c m.all known.0 here m.is).1.2
       (not_itself t c here m)
 
 -- WHAT A TURN NEEDS
@@ -411,7 +405,7 @@ module _ (j : Joint) (h : IsWhole j) (fits : FitsTogether (state j.rows)) (v t :
       (thread_low j h v x at known t c here) stands (stood c.listed k.phase)
   at_var (Some x) at known here (core.Notify k) is stands =
       by_notice (notify_turn k.phase)
-      (λ e. ap (λ (o : Option Var). may_move_all j o) at ∙ moves_all j h v x at known t c fits.lots.sound.fit.some here
+      (λ e. ap (λ (o : Option Var). may_move_all j o) at ∙ moves_all j h v x at known t c here
       (marking c (ap (λ (d : Core). is_moving (turn_by c.listed d)) is ∙ e))) (not_of_wait k.phase)
 
   pub turn_ready : KnownIn (var_at j v) → call_at j v t ≡ Some c → turn_is_ready (turn_of c) j t v c ≡ true

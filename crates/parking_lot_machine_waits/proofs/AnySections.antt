@@ -1,9 +1,8 @@
 -- Whether a section of some lock is open, once one goes on or is closed.
-use Rattle.std.proofs.Common.{◌≡◌, ◌<◌, ◌+◌, ◌%◌, ◌==◌, ◌||◌, ℕ, zero, suc, Bool, true, false, Option, Some, None}
+use Rattle.std.proofs.Common.{◌≡◌, ◌<◌, ◌%◌, ◌==◌, ◌||◌, ℕ, zero, suc, Bool, true, false, Option, Some, None}
 use Rattle.std.proofs.Common.{is_some, option_map}
 use Rattle.std.proofs.Common.{refl, sym, ap, ◌∙◌, arith}
 use Rattle.std.proofs.lemmas.Bool.{eqb-false}
-use Rattle.std.proofs.Math.Nat.{mod-eq_of_lt}
 use Rattle.parking_lot_core_model.specs.declared.parking.UnparkToken.{UnparkToken}
 use Rattle.parking_lot_core_model.specs.declared.place.Phase.{Phase}
 use Rattle.parking_lot_core_model.specs.declared.place.Section.{Section}
@@ -22,28 +21,19 @@ neither : (a b : Bool) → (a || b) ≡ false → (a ≡ false) × (b ≡ false)
 neither true b e = absurd cc
 neither false b e = (refl, e)
 
-and_none : (a b : Bool) → a ≡ false → b ≡ false → (a || b) ≡ false
-and_none true b e f = absurd cc
-and_none false b e f = f
-
 -- nobody is in one
 pub none_open : (n : ℕ) → any_open (λ b. None) n ≡ false
 none_open zero = refl
 none_open (suc n) = none_open n
 
--- none of them is open where none was
-pub any_fewer : (secs secs' : ℕ → Option Section) (n : ℕ)
-    → ((b : ℕ) → is_some (secs' b) ≡ true → is_some (secs b) ≡ true) → any_open secs n ≡ false
-    → any_open secs' n ≡ false
-any_fewer secs secs' zero fewer e = refl
-any_fewer secs secs' (suc n) fewer e =
-    let x = neither (is_some (secs n)) (any_open secs n) e in
-    and_none (is_some (secs' n)) (any_open secs' n) (here (is_some (secs' n)) refl x.0)
-    (any_fewer secs secs' n fewer x.1)
+-- it isn't open where it wasn't
+pub still_shut : (secs secs' : ℕ → Option Section) (b : ℕ) → (is_some (secs' b) ≡ true → is_some (secs b) ≡ true)
+    → is_some (secs b) ≡ false → is_some (secs' b) ≡ false
+still_shut secs secs' b fewer e = go (is_some (secs' b)) refl
   where
-    here : (b : Bool) → is_some (secs' n) ≡ b → is_some (secs n) ≡ false → is_some (secs' n) ≡ false
-    here true q none = both_ways (is_some (secs n)) (fewer n q) none
-    here false q none = q
+    go : (x : Bool) → is_some (secs' b) ≡ x → is_some (secs' b) ≡ false
+    go true f = both_ways (is_some (secs b)) (fewer f) e
+    go false f = f
 
 -- where none is open, none is in any bucket
 none_at : (secs : ℕ → Option Section) (n b : ℕ) → any_open secs n ≡ false → b < n → secs b ≡ None
@@ -74,21 +64,13 @@ some_open secs (suc n) e = here (secs n) refl (λ f. some_open secs n f)
     here (Some x) is later = (n, x, is)
     here None is later = later (sym (ap (λ (o : Option Section). is_some o || any_open secs n) is) ∙ e)
 
--- a number that is less than so many is its own remainder: one bucket more, and one that is open
-pub one_more : (secs : ℕ → Option Section) (n k : ℕ) → k < n → any_open secs k ≡ false
-    → is_some (secs (k % n)) ≡ false → any_open secs (k + 1) ≡ false
-one_more secs n k low e none =
-    let more : k + 1 ≡ suc k = omega arith in
-    ap (any_open secs) more ∙ and_none (is_some (secs k)) (any_open secs k)
-    (ap (λ (i : ℕ). is_some (secs i)) (sym (mod-eq_of_lt low)) ∙ none) e
-
-pub some_there : (secs : ℕ → Option Section) (n k : ℕ) → k < n → is_some (secs (k % n)) ≡ true → any_open secs n ≡ true
-some_there secs n k low some = go (any_open secs n) refl
+-- where one is open in a bucket that there is, one is
+pub some_there : (secs : ℕ → Option Section) (n b : ℕ) → b < n → is_some (secs b) ≡ true → any_open secs n ≡ true
+some_there secs n b low some = go (any_open secs n) refl
   where
-    go : (b : Bool) → any_open secs n ≡ b → any_open secs n ≡ true
+    go : (x : Bool) → any_open secs n ≡ x → any_open secs n ≡ true
     go true e = e
-    go false e = both_ways (is_some (secs k)) (ap (λ (i : ℕ). is_some (secs i)) (sym (mod-eq_of_lt low)) ∙ some)
-        (ap is_some (none_at secs n k e low))
+    go false e = both_ways (is_some (secs b)) some (ap is_some (none_at secs n b e low))
 
 -- one changes, which isn't open but where it was
 fewer_at : (secs : ℕ → Option Section) (k : ℕ) (o : Option Section)
@@ -106,21 +88,27 @@ was_open f (Some x) e = refl
 none_open_there : {X : Type 0} → is_some {T = Section} None ≡ true → X
 none_open_there e = both_ways false e refl
 
-module _ (m : Machine) (key : ℕ) (e : any_open m.sections m.buckets ≡ false) where
-  pub phase_shut : (ph : Phase) → any_open (in_phase m key ph).sections m.buckets ≡ false
-  phase_shut ph = any_fewer m.sections (in_phase m key ph).sections m.buckets
+module _ (m : Machine) (key b : ℕ) (e : is_some (m.sections b) ≡ false) where
+  pub phase_shut : (ph : Phase) → is_some ((in_phase m key ph).sections b) ≡ false
+  phase_shut ph = still_shut m.sections (in_phase m key ph).sections b
       (fewer_at m.sections (bucket_of m key) (option_map {T = Section} (λ s. record s { phase = ph }) (open_at m key))
-      (was_open (λ s. record s { phase = ph }) (open_at m key))) e
+      (was_open (λ s. record s { phase = ph }) (open_at m key)) b) e
 
-  pub store_shut : (token : UnparkToken) → any_open (stored m key token).sections m.buckets ≡ false
-  store_shut token = any_fewer m.sections (stored m key token).sections m.buckets
+  pub store_shut : (token : UnparkToken) → is_some ((stored m key token).sections b) ≡ false
+  store_shut token = still_shut m.sections (stored m key token).sections b
       (fewer_at m.sections (bucket_of m key)
       (option_map {T = Section} (λ s. record s { phase = Phase.Stored; token = token }) (open_at m key))
-      (was_open (λ s. record s { phase = Phase.Stored; token = token }) (open_at m key))) e
+      (was_open (λ s. record s { phase = Phase.Stored; token = token }) (open_at m key)) b) e
 
-  pub close_shut : (woken : Bool) → any_open (closed m key woken).sections m.buckets ≡ false
-  close_shut woken = any_fewer m.sections (closed m key woken).sections m.buckets
-      (fewer_at m.sections (bucket_of m key) None (λ some. none_open_there some)) e
+  pub close_shut : (woken : Bool) → is_some ((closed m key woken).sections b) ≡ false
+  close_shut woken = still_shut m.sections (closed m key woken).sections b
+      (fewer_at m.sections (bucket_of m key) None (λ some. none_open_there some) b) e
+
+  -- one that is opened in another bucket leaves this one so
+  pub opened_shut : (owner : Option ℕ) → (b == bucket_of m key) ≡ false
+      → is_some ((opened m owner key).sections b) ≡ false
+  opened_shut owner other =
+      ap is_some (updated_other m.sections (bucket_of m key) (Some (fresh_section owner key)) b other) ∙ e
 
   -- other buckets stay
   goes_elsewhere : (n : Machine) (ph : Phase) (i : ℕ) → (i == bucket_of n key) ≡ false
@@ -129,16 +117,16 @@ module _ (m : Machine) (key : ℕ) (e : any_open m.sections m.buckets ≡ false)
       (option_map {T = Section} (λ s. record s { phase = ph }) (open_at n key)) i e
 
   -- a thread that joins a list in a section of its own has left it
-  pub joined_shut : (v : ℕ) → any_open (lot_with m v key).sections m.buckets ≡ false
+  pub joined_shut : (v : ℕ) → is_some ((lot_with m v key).sections b) ≡ false
   joined_shut v =
-      let b : ℕ = bucket_of m key in
+      let k : ℕ = bucket_of m key in
       let o : Machine = opened m (Some v) key in
       let p : Machine = in_phase o key Phase.Valid in
       let q : Machine = in_phase p key Phase.Joined in
-      any_fewer m.sections (updated q.sections b None) m.buckets
-      (λ i some. by_eqb i b (is_some (m.sections i) ≡ true)
+      still_shut m.sections (updated q.sections k None) b
+      (λ some. by_eqb b k (is_some (m.sections b) ≡ true)
       (λ e. none_open_there
-      (sym (ap is_some (ap (updated q.sections b None) e ∙ updated_at q.sections b None)) ∙ some))
-      (λ e. sym (ap is_some (updated_other q.sections b None i e
-      ∙ (goes_elsewhere p Phase.Joined i e ∙ (goes_elsewhere o Phase.Valid i e
-      ∙ updated_other m.sections b (Some (fresh_section (Some v) key)) i e)))) ∙ some)) e
+      (sym (ap is_some (ap (updated q.sections k None) e ∙ updated_at q.sections k None)) ∙ some))
+      (λ e. sym (ap is_some (updated_other q.sections k None b e
+      ∙ (goes_elsewhere p Phase.Joined b e ∙ (goes_elsewhere o Phase.Valid b e
+      ∙ updated_other m.sections k (Some (fresh_section (Some v) key)) b e)))) ∙ some)) e

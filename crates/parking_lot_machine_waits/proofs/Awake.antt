@@ -14,7 +14,7 @@ use Rattle.parking_lot_machine_calls.proofs.Stancing.{leads_by}
 use Rattle.parking_lot_machine.specs.RowFits.{FitsTogether, Stands as RowStands}
 use Rattle.parking_lot_machine.specs.Rows.{open_at, State, call_at as row_call_at}
 use Rattle.parking_lot_machine.proofs.LotActs.{seat_of}
-use Rattle.parking_lot_machine_waits.specs.Joint.{core_enters, is_entry, is_entered}
+use Rattle.parking_lot_machine_waits.specs.Joint.{act_bucket, call_enters, core_enters, is_entered}
 use Rattle.parking_lot_protocol.specs.declared.act.Act.{Act}
 use Rattle.parking_lot_protocol.specs.declared.act.CoreAnswer.{CoreAnswer}
 use Rattle.parking_lot_protocol.specs.declared.mutex_phase.MutexPhase.{MutexPhase}
@@ -29,21 +29,15 @@ use Rattle.parking_lot_machine_waits.specs.Whole.{gives, phase_gives}
 
 -- BOOLS
 
-pub goes_anyway : (a e o : Bool) → a ≡ true → o ≡ false → (a && not (e && o)) ≡ true
-goes_anyway true true true x y = absurd cc
-goes_anyway true true false x y = refl
-goes_anyway true false o x y = refl
-goes_anyway false e o x y = absurd cc
-
-pub may_act : (own e n l : Bool) → own ≡ true → (e ≡ false) ⊎ ((n ≡ true) × (l ≡ false))
-    → ((own && (not e || n)) && not (e && l)) ≡ true
-may_act true true n l x (inl y) = absurd cc
-may_act true false n l x (inl y) = refl
-may_act true true true true x (inr (y, z)) = absurd cc
-may_act true true true false x (inr (y, z)) = refl
-may_act true true false l x (inr (y, z)) = absurd cc
-may_act true false n l x (inr (y, z)) = refl
-may_act false e n l x y = absurd cc
+pub may_act : (own e n l : Bool) → own ≡ true → (e ≡ false) ⊎ (n ≡ true) → l ≡ false
+    → ((own && (not e || n)) && not l) ≡ true
+may_act own e n true x y z = absurd cc
+may_act true true n false x (inl y) z = absurd cc
+may_act true false n false x (inl y) z = refl
+may_act true true true false x (inr y) z = refl
+may_act true true false false x (inr y) z = absurd cc
+may_act true false n false x (inr y) z = refl
+may_act false e n false x y z = absurd cc
 
 pub and_too : (a e : Bool) → a ≡ true → e ≡ false → (a && not e) ≡ true
 and_too true true x y = absurd cc
@@ -70,16 +64,18 @@ out_in e = cc
 asleep_in : {k i : ℕ} {park : ParkToken} {how : Doing} → Asleep k park ≡ In i how → ⊥
 asleep_in e = cc
 
-act_inside : (c : RowCore) (a : Act) (k : ℕ) (how : Doing) → core_act c ≡ a → stance c ≡ In k how → is_entry a ≡ false
-act_inside c (Act.Enter key) k how e is = absurd (out_in (sym (leads_by c (Act.Enter key) 0 seen.Entered e tt).0 ∙ is))
-act_inside c Act.Load k how e is = refl
-act_inside c (Act.Exchange from to) k how e is = refl
-act_inside c (Act.Add by) k how e is = refl
-act_inside c (Act.FetchAnd keep) k how e is = refl
-act_inside c Act.Spin k how e is = refl
-act_inside c (Act.Section next) k how e is = refl
-act_inside c Act.Sleep k how e is = refl
-act_inside c (Act.Done answer) k how e is = refl
+act_inside : (n : ℕ) (d : Call) (c : RowCore) (a : Act) (k : ℕ) (how : Doing) → core_act c ≡ a → stance c ≡ In k how
+    → act_bucket n d a ≡ None
+act_inside n d c (Act.Enter key) k how e is =
+    absurd (out_in (sym (leads_by c (Act.Enter key) 0 seen.Entered e tt).0 ∙ is))
+act_inside n d c Act.Load k how e is = refl
+act_inside n d c (Act.Exchange from to) k how e is = refl
+act_inside n d c (Act.Add by) k how e is = refl
+act_inside n d c (Act.FetchAnd keep) k how e is = refl
+act_inside n d c Act.Spin k how e is = refl
+act_inside n d c (Act.Section next) k how e is = refl
+act_inside n d c Act.Sleep k how e is = refl
+act_inside n d c (Act.Done answer) k how e is = refl
 
 -- whoever lies in a list is in none
 lying_in : (a : Stance) (k : ℕ) (how : Doing) → lying a ≡ In k how → ⊥
@@ -89,14 +85,14 @@ lying_in (Asleep key park) k how e = cc
 
 -- one that is in a section of a lock enters none
 pub inside_enters_none : (s : State) → FitsTogether s → (t : ℕ) (d : Call) → row_call_at s t ≡ Some d → (key : ℕ)
-    → s.lot.inside t ≡ Some key → core_enters d.core ≡ false
+    → s.lot.inside t ≡ Some key → call_enters s.lot.buckets d ≡ None
 inside_enters_none s h t d here key in_it =
     go (stance d.core) refl (seat_of s h.lots t d (stance d.core) here refl)
   where
-    by_core : (c : RowCore) (k : ℕ) (how : Doing) → stance c ≡ In k how → core_enters c ≡ false
-    by_core (row_core.Mutex m) k how is = act_inside (row_core.Mutex m) _ k how refl is
-    by_core (row_core.Rw m) k how is = act_inside (row_core.Rw m) _ k how refl is
-    by_core (row_core.Upgrade m) k how is = act_inside (row_core.Upgrade m) _ k how refl is
+    by_core : (c : RowCore) (k : ℕ) (how : Doing) → stance c ≡ In k how → core_enters s.lot.buckets d c ≡ None
+    by_core (row_core.Mutex m) k how is = act_inside s.lot.buckets d (row_core.Mutex m) _ k how refl is
+    by_core (row_core.Rw m) k how is = act_inside s.lot.buckets d (row_core.Rw m) _ k how refl is
+    by_core (row_core.Upgrade m) k how is = act_inside s.lot.buckets d (row_core.Upgrade m) _ k how refl is
     by_core (row_core.Late LatePhase.Expires) k how is = absurd (asleep_in is)
     by_core (row_core.Late p) k how is = refl
     by_core (row_core.LateRw (LateRwPhase.Expires z)) k how is = absurd (lying_in (sleeper_stance z) k how is)
@@ -104,7 +100,7 @@ inside_enters_none s h t d here key in_it =
 
     go : (a : Stance) → stance d.core ≡ a
         → RowStands t d.lock a d.spot (place_at s.lot.places t) (s.lot.inside t) (open_at s)
-        → core_enters d.core ≡ false
+        → call_enters s.lot.buckets d ≡ None
     go Out e st = absurd (none-some key (sym st.1 ∙ in_it))
     go (In k how) e st = by_core d.core k how e
     go (Asleep k park) e st = absurd (none-some key (sym st.1 ∙ in_it))

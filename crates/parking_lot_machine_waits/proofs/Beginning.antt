@@ -1,6 +1,5 @@
 -- A call that begins at a variable leaves a machine whole.
-use Rattle.parking_lot_machine_waits.specs.Joint.{any_section}
-use Rattle.std.proofs.Common.{◌≡◌, ◌≢◌, ◌⊎◌, inl, inr, ℕ, ◌+◌, ◌<◌, Bool, true, false, not, cond, nat_lt, ◌&&◌, ◌||◌}
+use Rattle.std.proofs.Common.{◌≡◌, ◌≢◌, inl, inr, ℕ, ◌+◌, ◌<◌, Bool, true, false, not, cond, nat_lt, ◌&&◌, ◌||◌}
 use Rattle.std.proofs.Common.{is_none, is_some, List, length, Option, Some, None, option_map, slice_get, slice_set}
 use Rattle.std.proofs.Common.{refl, sym, ap, ◌∙◌, subst, eqb-true}
 use Rattle.std.specs.Option.{unwrap_or}
@@ -27,12 +26,12 @@ use Rattle.parking_lot_machine.specs.RowFits.{FitsTogether}
 use Rattle.parking_lot_machine.specs.Rows.{Rows, State, call_at as row_call_at, hold_at, state}
 use Rattle.parking_lot_machine.specs.SoundLaws.{Always, OwnersAgree, agrees}
 use Rattle.parking_lot_machine_waits.specs.declared.seat.Seat.{Seat}
-use Rattle.parking_lot_machine_waits.specs.Joint.{Joint, back_number, front_number, has_by_second, is_open_at_variables}
+use Rattle.parking_lot_machine_waits.specs.Joint.{Joint, back_number, front_number, has_by_second}
 use Rattle.parking_lot_machine_waits.specs.Joint.{nowhere, number, seat_at, var_at}
 use Rattle.parking_lot_machine_waits.specs.JointMoves.{has_mutex, is_free, is_mutex, may_call, may_call_at}
 use Rattle.parking_lot_machine_waits.specs.JointSteps.{BeginsIn, IsCalled, waits_by_second}
 use Rattle.parking_lot_machine_waits.specs.Turns.{is_wait, mutex_of}
-use Rattle.parking_lot_machine_waits.specs.Whole.{Owns, Away, IsMutex, IsSo, IsWhole, Stands, place_of}
+use Rattle.parking_lot_machine_waits.specs.Whole.{Apart, Owns, Away, IsMutex, IsSo, IsWhole, Stands, place_of}
 use Rattle.parking_lot_machine_waits.proofs.Hearing.{both_true}
 use Rattle.parking_lot_machine_waits.proofs.Keeping.{Anew, HoldsWhole, is, rows_same, seats_at, var_shut, vars_at}
 use Rattle.parking_lot_machine_waits.proofs.Keeping.{whole_still}
@@ -198,8 +197,9 @@ module _ (agree : Always OwnersAgree) (i j : Joint) (t v : ℕ) (c : CondvarCall
       (only_there i j t v x y (call_for c) at calls written_vars
       (λ w d there. absurd (none-some d (sym (free_at i h t unseated w) ∙ there))))
       (stand c refl kept.plain)))
-      (var_shut i j h v x y at written_vars (λ e. ap (λ (z : Var). is_some z.inside) (sym begins.became) ∙ e)
-      (subst (λ (r : Rows). (any_section (state r) ≡ false) ⊎ (is_open_at_variables i ≡ false)) (sym rows) h.sections))
+      (var_shut i j h (ap (λ (r : Rows). (state r).lot.buckets) rows) v x y at written_vars
+      (λ e. (ap (λ (z : Var). is_some z.inside) (sym begins.became) ∙ e, ap (λ (z : Var). z.beside) begins.became))
+      (subst (λ (r : Rows). Apart (state r) i) (sym rows) h.sections))
       (subst (λ (r : Rows). HoldsWhole (state r)) (sym rows) h.holds)
 
 -- It begins there.

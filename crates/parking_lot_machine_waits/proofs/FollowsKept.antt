@@ -1,9 +1,7 @@
 -- What a waiter does at its mutex that was taken off the variable's list leaves a machine whole: it comes back into the
 -- mutex's list, or goes on there.
-use Rattle.parking_lot_machine_waits.specs.Joint.{any_section}
-use Rattle.parking_lot_core_model.specs.Buckets.{any_open}
-use Rattle.std.proofs.Common.{◌≡◌, ◌≢◌, ◌⊎◌, inl, inr, ℕ, ◌==◌, ◌<◌, Bool, true, false, not, cond, ◌&&◌, length, Option}
-use Rattle.std.proofs.Common.{Some, None, refl, sym, ap, ◌∙◌, subst}
+use Rattle.std.proofs.Common.{◌≡◌, ◌≢◌, ◌⊎◌, inl, inr, ℕ, ◌==◌, ◌<◌, Bool, true, false, not, cond, length, Option}
+use Rattle.std.proofs.Common.{Some, None, is_some, refl, sym, ap, ◌∙◌, subst}
 use Rattle.std.proofs.lemmas.List.{length-set}
 use Rattle.std.proofs.lemmas.Option.{same_Some}
 use Rattle.parking_lot_core_model.specs.declared.parking.UnparkToken.{UnparkToken}
@@ -29,13 +27,14 @@ use Rattle.parking_lot_machine.specs.Machines as rows
 use Rattle.parking_lot_machine.specs.Rows.{State, call_at as row_call_at, state}
 use Rattle.parking_lot_machine_waits.specs.declared.turn.Turn.{Turn}
 use Rattle.parking_lot_machine_waits.specs.declared.turn.Turn.TheVariants as turn
-use Rattle.parking_lot_machine_waits.specs.Joint.{Joint, back_number, call_at, core_enters, front_number}
-use Rattle.parking_lot_machine_waits.specs.Joint.{is_open_at_variables, row_goes, seat_at}
+use Rattle.parking_lot_machine_waits.specs.Joint.{Joint, back_number, buckets, call_at, call_enters}
+use Rattle.parking_lot_machine_waits.specs.Joint.{front_number, is_kept, keeps_out, row_goes, seat_at}
 use Rattle.parking_lot_machine_waits.specs.JointLaws.{PartsFit}
 use Rattle.parking_lot_machine_waits.specs.JointSteps.{ComesBackIf, FollowsAs, HearsAt, IsFollowing}
 use Rattle.parking_lot_machine_waits.specs.Turns.{acts_or, handed, is_late, mutex_of, notify_turn, retried, sleeps_or}
 use Rattle.parking_lot_machine_waits.specs.Turns.{turn_by, turn_of, wait_turn, wait_wakes, wakes_with}
-use Rattle.parking_lot_machine_waits.specs.Whole.{AtMutex, Away, Asks, IsIn, IsSo, IsWhole, Waits, asks, asks_on}
+use Rattle.parking_lot_machine_waits.specs.Whole.{Apart, AtMutex, Away, Asks, IsIn, IsSo, IsWhole, Waits, asks}
+use Rattle.parking_lot_machine_waits.specs.Whole.{asks_on}
 use Rattle.parking_lot_machine_waits.specs.Whole.{away_or_asks, back_of, front_of, named, woken_by}
 use Rattle.parking_lot_machine_waits.proofs.ActsTurns.{resumes_back, resumes_front, resumes_names}
 use Rattle.parking_lot_machine_waits.proofs.Ending.{begun_asking, expired_asking, got_or_not}
@@ -43,7 +42,8 @@ use Rattle.parking_lot_machine_waits.proofs.Keeping.{HoldsWhole, RowsKept, Stays
 use Rattle.parking_lot_machine_waits.proofs.Keeping.{stays_on}
 use Rattle.parking_lot_machine_waits.proofs.LocksKept.{kept_stays, number_low, over_holds, over_stays, written_holds}
 use Rattle.parking_lot_machine_waits.proofs.LocksKept.{written_rows, written_sections, written_stays}
-use Rattle.parking_lot_machine_waits.proofs.MutexSteps.{enters_beside, goes_there, went_holds, went_rows, went_sections}
+use Rattle.parking_lot_machine_waits.proofs.MutexSteps.{enters_beside, goes_there, went_holds, went_rows}
+use Rattle.parking_lot_machine_waits.proofs.MutexSteps.{went_sections}
 use Rattle.parking_lot_machine_waits.proofs.MutexTurns.{back_now, back_still, front_differs, front_still, heard_whole}
 use Rattle.parking_lot_machine_waits.proofs.MutexTurns.{stands_at, stood, with_phase}
 use Rattle.parking_lot_machine_waits.proofs.Places.{Goes, Kept, Over, stepped_goes}
@@ -97,7 +97,7 @@ module _ (i j : Joint) (t v : ℕ) (c : OpenCall) (h : IsWhole i) (fits : PartsF
         let kept = rows_same i j (is t) same in
         heard_whole i j t v c (w.Expires k) h fits here is_core seats kept
         (subst (λ r. HoldsWhole (state r)) (sym same) h.holds)
-        (subst (λ r. (any_section (state r) ≡ false) ⊎ (is_open_at_variables i ≡ false)) (sym same) h.sections)
+        (subst (λ r. Apart (state r) i) (sym same) h.sections)
         outside.Made hears
         (λ plain. stands_at i j t v c (w.Expires k) h fits here is_core (w.Quits k) kept plain stood_there.names
         (front_still i j t seats Away (mutex_of c.call) (same_stays (front_number i t)) stood_there.front)
@@ -176,9 +176,9 @@ module _ (i j : Joint) (t v : ℕ) (c : OpenCall) (p : WaitPhase) (h : IsWhole i
   others = front_differs i t within
 
   -- it was told so, and owns the mutex or goes on asking for it
-  told_whole : (token : UnparkToken) → RowsKept i j (is t) → HoldsWhole u → (any_section u ≡ false)
-      ⊎ (is_open_at_variables i ≡ false) → HearsAt t v (wakes_with c.core token) i j
-      → Stays s u (front_number i t) → IsSo (woken_by (token.0 == 1)) u own lock → IsWhole j
+  told_whole : (token : UnparkToken) → RowsKept i j (is t) → HoldsWhole u → Apart u i
+      → HearsAt t v (wakes_with c.core token) i j → Stays s u (front_number i t)
+      → IsSo (woken_by (token.0 == 1)) u own lock → IsWhole j
   told_whole token kept holds sections hears front so =
       heard_whole i j t v c p h fits here o.core seats kept holds sections (wait_wakes p token)
       (subst (λ (k : Core). HearsAt t v (wakes_with k token) i j) o.core hears)
@@ -191,18 +191,18 @@ module _ (i j : Joint) (t v : ℕ) (c : OpenCall) (p : WaitPhase) (h : IsWhole i
       (back_now i j t seats (woken_by (token.0 == 1)) lock so))))
 
   -- what its step leaves of the machine
-  rows_after : (enters : Bool) (a : Option CoreAnswer) → Goes a enters own s u → RowsKept i j (is t)
+  rows_after : (enters : Option ℕ) (a : Option CoreAnswer) → Goes a enters own s u → RowsKept i j (is t)
   rows_after = went_rows i j t v c p h fits here o.core seats (seat_at i t).second
 
-  holds_after : (enters : Bool) (a : Option CoreAnswer) → Goes a enters own s u → HoldsWhole u
+  holds_after : (enters : Option ℕ) (a : Option CoreAnswer) → Goes a enters own s u → HoldsWhole u
   holds_after = went_holds i j t v c p h fits here o.core seats (seat_at i t).second
 
-  shut_after : (enters : Bool) (a : Option CoreAnswer) → not (enters && is_open_at_variables i) ≡ true
-      → Goes a enters own s u → (any_section u ≡ false) ⊎ (is_open_at_variables i ≡ false)
+  shut_after : (enters : Option ℕ) (a : Option CoreAnswer) → not (keeps_out i enters) ≡ true
+      → Goes a enters own s u → Apart u i
   shut_after = went_sections i j t v c p h fits here o.core seats (seat_at i t).second
 
   -- its call goes on
-  module _ (enters : Bool) (may : not (enters && is_open_at_variables i) ≡ true) (x : Kept enters s u) where
+  module _ (enters : Option ℕ) (may : not (keeps_out i enters) ≡ true) (x : Kept enters s u) where
     stays_late : j.vars ≡ i.vars → IsWhole j
     stays_late vars = goes_there i j t v c p h fits here o.core seats enters (rows_after enters None x)
         (holds_after enters None x) (shut_after enters None may x) x vars
@@ -212,7 +212,7 @@ module _ (i j : Joint) (t v : ℕ) (c : OpenCall) (p : WaitPhase) (h : IsWhole i
         (shut_after enters None may x) hears (kept_stays s u x _) ((kept_stays s u x own).asking_on lock on)
 
   -- it has the mutex
-  has_it : (enters : Bool) → not (enters && is_open_at_variables i) ≡ true → Over own answer.Owned s u
+  has_it : (enters : Option ℕ) → not (keeps_out i enters) ≡ true → Over own answer.Owned s u
       → HearsAt t v (wakes_with c.core handed) i j → IsWhole j
   has_it enters may x hears = elim (got_or_not s u own answer.Owned fits.rows x lock asked) [
     | inl e ↦ told_whole handed (rows_after enters (Some answer.Owned) x) (holds_after enters (Some answer.Owned) x)
@@ -229,10 +229,11 @@ module _ (i j : Joint) (t v : ℕ) (c : OpenCall) (p : WaitPhase) (h : IsWhole i
   asks_again d mid at x begins hears =
       told_whole retried
       (rows_by i j t (seat_at i t).second (ap (λ (y : State). length y.calls) begins.became ∙ length-set mid.calls own _
-      ∙ count) (ap (λ (y : State). y.kinds) begins.became ∙ ap (λ (y : State). y.kinds) x.became) others_stay)
+      ∙ count) (ap (λ (y : State). y.kinds) begins.became ∙ ap (λ (y : State). y.kinds) x.became)
+      (ap (λ (y : State). y.lot.buckets) begins.became ∙ ap (λ (y : State). y.lot.buckets) x.became) others_stay)
       (written_holds mid u own _ begins.became (over_holds s mid own answer.Refused fits.rows x h.holds))
-      (subst (λ (l : Machine). (any_open l.sections l.buckets ≡ false) ⊎ (is_open_at_variables i ≡ false))
-      (sym (ap (λ (y : State). y.lot) begins.became ∙ ap (λ (y : State). y.lot) x.became)) h.sections)
+      (λ b. subst (λ (l : Machine). (is_some (l.sections b) ≡ false) ⊎ (is_kept i b ≡ false))
+      (sym (ap (λ (y : State). y.lot) begins.became ∙ ap (λ (y : State). y.lot) x.became)) (h.sections b))
       hears (others_stay _ others)
       (subst (λ (m : ℕ). IsIn asks_on u own m) at
       (begun_asking mid u own d.lock begins
@@ -250,8 +251,8 @@ module _ (i j : Joint) (t v : ℕ) (c : OpenCall) (p : WaitPhase) (h : IsWhole i
   neither b P Q n m (inl e) = absurd (n e.0)
   neither b P Q n m (inr e) = absurd (m e.0)
 
-  module _ (d : Call) (there : row_call_at s own ≡ Some d) (mid : State) (enters : Bool)
-      (may : not (enters && is_open_at_variables i) ≡ true) where
+  module _ (d : Call) (there : row_call_at s own ≡ Some d) (mid : State) (enters : Option ℕ)
+      (may : not (keeps_out i enters) ≡ true) where
     same : asked.call ≡ d
     same = same_Some asked.call d (sym asked.here ∙ there)
 
@@ -285,7 +286,7 @@ module _ (i j : Joint) (t v : ℕ) (c : OpenCall) (p : WaitPhase) (h : IsWhole i
 
   pub off_follows : (fair : Bool) → row_goes i own ≡ true → IsFollowing t v own fair c i j → IsWhole j
   off_follows fair can x =
-      onward x.d x.there x.mid (core_enters x.step.call.core)
+      onward x.d x.there x.mid (call_enters (buckets i) x.step.call)
       (enters_beside i own fair x.answer x.mid can x.step)
       (is_late x.d.core) x.answer refl (stepped_goes s x.mid own fair x.answer fits.rows x.step) x.onward
 

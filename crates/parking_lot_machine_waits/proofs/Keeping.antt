@@ -1,5 +1,4 @@
 -- A machine stays whole where a step changes only what some threads have, and each of these stands as its wait says.
-use Rattle.parking_lot_machine_waits.specs.Joint.{is_open_at_locks}
 use Rattle.std.proofs.Common.{◌≡◌, ◌≢◌, ◌⊎◌, ◌||◌, inl, inr, ℕ, zero, suc, ◌+◌, ◌-◌, ◌*◌, ◌==◌, ◌<◌, ◌≤◌, Bool, true}
 use Rattle.std.proofs.Common.{false, not, cond, List, [], ◌∷◌, length, Option, Some, None, option_map, slice_get}
 use Rattle.std.proofs.Common.{slice_set, refl, sym, ap, ◌∙◌, subst, arith, eq-eqb, eqb-true}
@@ -21,12 +20,15 @@ use Rattle.parking_lot_machine_calls.specs.declared.seat.Core.{Core as RowCore}
 use Rattle.parking_lot_machine_calls.specs.Beginnings.{excludes, owns_nothing}
 use Rattle.parking_lot_machine.specs.Rows.{Rows, State, call_at as row_call_at, hold_at, state}
 use Rattle.parking_lot_machine_waits.specs.declared.seat.Seat.{Seat}
-use Rattle.parking_lot_machine_waits.specs.Joint.{Joint, back_number, call_at, call_in, front_number, is_entered}
-use Rattle.parking_lot_machine_waits.specs.Joint.{is_open_at_variables, nowhere, number, seat_at, var_at, var_in}
+use Rattle.parking_lot_machine_waits.specs.Joint.{Joint, back_number, buckets, call_at, call_in, front_number}
+use Rattle.parking_lot_machine_waits.specs.Joint.{is_entered, is_kept, is_open_at_variables, is_open_in, keeps}
+use Rattle.parking_lot_machine_waits.specs.Joint.{keeps_at}
+use Rattle.parking_lot_machine_waits.specs.Joint.{nowhere, number, seat_at, var_at, var_in}
 use Rattle.parking_lot_machine_waits.specs.Turns.{mutex_of}
 use Rattle.parking_lot_machine_waits.specs.Whole.{AtMutex, Owns, Away, Gives, Asks, AsksOn, Never, IsIn, IsMutex, IsSo}
 use Rattle.parking_lot_machine_waits.specs.Whole.{IsWhole, Stands, asks, asks_on, back_of, front_of, gives}
-use Rattle.parking_lot_machine_waits.specs.Whole.{is_entered_at}
+use Rattle.parking_lot_machine_waits.specs.Whole.{Apart}
+use Rattle.parking_lot_machine_waits.proofs.Keepers.{Fewer, both_ways, fewer_keeps, is_in, keeper, kept}
 use Rattle.parking_lot_machine_waits.proofs.Places.{Same}
 
 -- WHAT STAYS OF A NUMBER
@@ -87,6 +89,7 @@ none_still s u k x e = place_in (row_call_at u k) (x.same.place ∙ ap (option_m
 pub record RowsKept (i j : Joint) (mine : ℕ → Bool) : Type 0 where
   pub count : length (state j.rows).calls ≡ length (state i.rows).calls
   pub kinds : (state j.rows).kinds ≡ (state i.rows).kinds
+  pub buckets : buckets j ≡ buckets i
   pub others : (k : ℕ) → ((t : ℕ) (second : Bool) → mine t ≡ true → k ≢ number i t second)
       → Stays (state i.rows) (state j.rows) k
 
@@ -125,8 +128,8 @@ HoldsWhole s = (k m : ℕ) → slice_get s.kinds m ≡ Some kind.Mutex → (excl
     ⊎ (owns_nothing (hold_at s k m) ≡ true)
 
 pub record AreShut (j : Joint) : Type 0 where
-  pub sections : (is_open_at_locks j ≡ false) ⊎ (is_open_at_variables j ≡ false)
-  pub alone : (v u : ℕ) → is_entered_at j v ≡ true → is_entered_at j u ≡ true → v ≡ u
+  pub sections : Apart (state j.rows) j
+  pub alone : (v u b : ℕ) → keeps_at j v b ≡ true → keeps_at j u b ≡ true → v ≡ u
 
 -- THE NUMBERS OF THE OTHERS
 
@@ -312,6 +315,7 @@ pub rows_same : (i j : Joint) (mine : ℕ → Bool) → j.rows ≡ i.rows → Ro
 rows_same i j mine e = record {
   count = ap (λ (r : Rows). length (state r).calls) e;
   kinds = ap (λ (r : Rows). (state r).kinds) e;
+  buckets = ap (λ (r : Rows). (state r).lot.buckets) e;
   others = λ k ne. untouched (state i.rows) (state j.rows) k (ap (λ (r : Rows). row_call_at (state r) k) e)
       (λ m. ap (λ (r : Rows). hold_at (state r) k m) e);
 }
@@ -344,10 +348,14 @@ is_not t u e same = go (u == t) (eq-eqb u t same) e
 
 -- of the locks one number's call, or two
 pub rows_by : (i j : Joint) (t : ℕ) (b : Bool) → length (state j.rows).calls ≡ length (state i.rows).calls
-    → (state j.rows).kinds ≡ (state i.rows).kinds
+    → (state j.rows).kinds ≡ (state i.rows).kinds → buckets j ≡ buckets i
     → ((k : ℕ) → k ≢ number i t b → Stays (state i.rows) (state j.rows) k) → RowsKept i j (is t)
-rows_by i j t b count kinds others =
-    record { count = count; kinds = kinds; others = λ k ne. others k (ne t b (eq-eqb t t refl)) }
+rows_by i j t b count kinds same others = record {
+  count = count;
+  kinds = kinds;
+  buckets = same;
+  others = λ k ne. others k (ne t b (eq-eqb t t refl));
+}
 
 pub seats_at : (i j : Joint) (t : ℕ) (x : Seat) → j.seats ≡ slice_set i.seats t x → SeatsKept i j (is t)
 seats_at i j t x e = record {
@@ -405,10 +413,6 @@ vars_at i j t v x y o at calls vars =
 
 -- WHICH SECTIONS ARE OPEN
 
-both_ways : {X : Type 0} (b : Bool) → b ≡ true → b ≡ false → X
-both_ways true e f = absurd cc
-both_ways false e f = absurd cc
-
 pub open_at : (vars : List (Option Var)) (v : ℕ) → is_entered (var_in vars v) ≡ true → list_any is_entered vars ≡ true
 open_at [] v e = absurd cc
 open_at (x ∷ xs) zero e = go (is_entered x) e
@@ -422,50 +426,84 @@ open_at (x ∷ xs) (suc v) e = go (is_entered x) (open_at xs v e)
     go true e = refl
     go false e = e
 
-pub open_somewhere : (vars : List (Option Var)) → list_any is_entered vars ≡ true → (v : ℕ)
-    × (is_entered (var_in vars v) ≡ true)
-open_somewhere [] e = absurd cc
-open_somewhere (x ∷ xs) e = go (is_entered x) refl e (open_somewhere xs)
+-- no bucket is kept that wasn't, and in none that was is a section of a lock open
+pub fewer_open : (i j : Joint) → IsWhole i → ((v b : ℕ) → keeps_at j v b ≡ true → keeps_at i v b ≡ true)
+    → Apart (state j.rows) i → AreShut j
+fewer_open i j h fewer sections = record {
+  sections = λ b. elim (sections b) [ inl e ↦ inl e | inr e ↦ inr (still b (is_kept j b) refl e) ];
+  alone = λ v u b x y. h.alone v u b (fewer v b x) (fewer u b y);
+}
   where
-    go : (b : Bool) → is_entered x ≡ b → (b || list_any is_entered xs) ≡ true
-        → (list_any is_entered xs ≡ true → (v : ℕ) × (is_entered (var_in xs v) ≡ true)) → (v : ℕ)
-        × (is_entered (var_in (x ∷ xs) v) ≡ true)
-    go true here e later = (0, here)
-    go false here e later = let (v, at) = later e in (suc v, at)
+    still : (b : ℕ) (x : Bool) → is_kept j b ≡ x → is_kept i b ≡ false → is_kept j b ≡ false
+    still b true e shut = let (v, at) = keeper j b e in both_ways (is_kept i b) (kept i v b (fewer v b at)) shut
+    still b false e shut = e
 
-module _ (i j : Joint) (h : IsWhole i) (fewer : (v : ℕ) → is_entered_at j v ≡ true → is_entered_at i v ≡ true) where
-  shut_still : (b : Bool) → is_open_at_variables j ≡ b → is_open_at_variables i ≡ false → is_open_at_variables j ≡ false
-  shut_still true e shut = let (v, at) = open_somewhere j.vars e in both_ways (is_open_at_variables i)
-      (open_at i.vars v (fewer v at)) shut
-  shut_still false e shut = e
+-- ONE VARIABLE IS WRITTEN
 
-  -- no variable's section is open that wasn't
-  pub fewer_open : (is_open_at_locks j ≡ false) ⊎ (is_open_at_variables i ≡ false) → AreShut j
-  fewer_open sections = record {
-    sections = elim sections [ inl e ↦ inl e | inr e ↦ inr (shut_still (is_open_at_variables j) refl e) ];
-    alone = λ v u a b. h.alone v u (fewer v a) (fewer u b);
-  }
+module _ (i j : Joint) (same : buckets j ≡ buckets i) (v : ℕ) (x : Var) (y : Option Var) (at : var_at i v ≡ Some x)
+    (vars : j.vars ≡ slice_set i.vars v y) where
+  -- what it keeps, and what others do
+  keeps_here : (w b : ℕ) → (w == v) ≡ true → keeps_at j w b ≡ true → keeps (buckets i) v y b ≡ true
+  keeps_here w b e a =
+      ap (λ (m : ℕ). keeps m v y b) (sym same)
+      ∙ (ap (λ (o : Option Var). keeps (buckets j) v o b) (sym (var_here i j v x y at vars))
+      ∙ (ap (λ (n : ℕ). keeps_at j n b) (sym (eqb-true w v e)) ∙ a))
 
--- a variable is written, and its section is open only if it was
-pub var_shut : (i j : Joint) → IsWhole i → (v : ℕ) (x y : Var) → var_at i v ≡ Some x
-    → j.vars ≡ slice_set i.vars v (Some y) → (is_entered (Some y) ≡ true → is_entered (Some x) ≡ true)
-    → (is_open_at_locks j ≡ false) ⊎ (is_open_at_variables i ≡ false) → AreShut j
-var_shut i j h v x y at vars less sections = fewer_open i j h (λ w e. go w (w == v) refl e) sections
+  keeps_elsewhere : (w b : ℕ) → (w == v) ≡ false → keeps_at j w b ≡ true → keeps_at i w b ≡ true
+  keeps_elsewhere w b e a =
+      ap (λ (m : ℕ). keeps m w (var_at i w) b) (sym same)
+      ∙ (ap (λ (o : Option Var). keeps (buckets j) w o b) (sym (var_elsewhere i j v w y (is_not v w e) vars)) ∙ a)
+
+-- it keeps no more than it did
+pub var_shut : (i j : Joint) → IsWhole i → buckets j ≡ buckets i → (v : ℕ) (x y : Var) → var_at i v ≡ Some x
+    → j.vars ≡ slice_set i.vars v (Some y) → Fewer x y → Apart (state j.rows) i → AreShut j
+var_shut i j h same v x y at vars less sections = fewer_open i j h (λ w b e. go w b (w == v) refl e) sections
   where
-    go : (w : ℕ) (b : Bool) → (w == v) ≡ b → is_entered_at j w ≡ true → is_entered_at i w ≡ true
-    go w true e a =
-        let same = eqb-true w v e in
-        ap is_entered (ap (λ (n : ℕ). var_at i n) same ∙ at)
-        ∙ less (ap is_entered (sym (var_here i j v x (Some y) at vars)) ∙ ap (is_entered_at j) (sym same) ∙ a)
-    go w false e a = ap is_entered (sym (var_elsewhere i j v w (Some y) (is_not v w e) vars)) ∙ a
+    go : (w b : ℕ) (is_it : Bool) → (w == v) ≡ is_it → keeps_at j w b ≡ true → keeps_at i w b ≡ true
+    go w b true e a =
+        ap (λ (n : ℕ). keeps_at i n b) (eqb-true w v e)
+        ∙ (ap (λ (o : Option Var). keeps (buckets i) v o b) at
+        ∙ fewer_keeps (buckets i) v x y b less (keeps_here i j same v x (Some y) at vars w b e a))
+    go w b false e a = keeps_elsewhere i j same v x (Some y) at vars w b e a
 
--- one is open, where none was
-pub now_open : (i j : Joint) (v : ℕ) (x : Var) (y : Option Var) → var_at i v ≡ Some x → j.vars ≡ slice_set i.vars v y
-    → is_open_at_locks j ≡ false → is_open_at_variables i ≡ false → AreShut j
-now_open i j v x y at vars locks shut =
-    record { sections = inl locks; alone = λ w u a b. here w (w == v) refl a ∙ sym (here u (u == v) refl b) }
+-- or it keeps buckets in which no section was open
+pub now_open : (i j : Joint) → IsWhole i → buckets j ≡ buckets i → (v : ℕ) (x : Var) (y : Option Var)
+    → var_at i v ≡ Some x → j.vars ≡ slice_set i.vars v y
+    → ((b : ℕ) → keeps (buckets i) v y b ≡ true → (is_open_in (state j.rows) b ≡ false) × (is_kept i b ≡ false))
+    → Apart (state j.rows) i → AreShut j
+now_open i j h same v x y at vars free sections = record {
+  sections = λ b. by (is_kept j b) b refl;
+  alone = λ w u b p q. only w u b (which w b (w == v) refl p) (which u b (u == v) refl q);
+}
   where
-    here : (w : ℕ) (b : Bool) → (w == v) ≡ b → is_entered_at j w ≡ true → w ≡ v
-    here w true e a = eqb-true w v e
-    here w false e a = both_ways (is_open_at_variables i)
-        (open_at i.vars w (sym (ap is_entered (var_elsewhere i j v w y (is_not v w e) vars)) ∙ a)) shut
+    Which : ℕ → ℕ → Type 0
+    Which w b = ((w ≡ v) × (keeps (buckets i) v y b ≡ true)) ⊎ (keeps_at i w b ≡ true)
+
+    which : (w b : ℕ) (is_it : Bool) → (w == v) ≡ is_it → keeps_at j w b ≡ true → Which w b
+    which w b true e a = inl (eqb-true w v e, keeps_here i j same v x y at vars w b e a)
+    which w b false e a = inr (keeps_elsewhere i j same v x y at vars w b e a)
+
+    locks_shut : (w b : ℕ) → Which w b → (is_open_in (state j.rows) b ≡ false) ⊎ (is_kept j b ≡ false)
+    locks_shut w b (inl here) = inl (free b here.1).0
+    locks_shut w b (inr there) = elim (sections b)
+        [ inl e ↦ inl e | inr e ↦ both_ways (is_kept i b) (kept i w b there) e ]
+
+    by : (k : Bool) (b : ℕ) → is_kept j b ≡ k → (is_open_in (state j.rows) b ≡ false) ⊎ (is_kept j b ≡ false)
+    by true b e = let (w, a) = keeper j b e in locks_shut w b (which w b (w == v) refl a)
+    by false b e = inr e
+
+    only : (w u b : ℕ) → Which w b → Which u b → w ≡ u
+    only w u b (inl here) (inl too) = here.0 ∙ sym too.0
+    only w u b (inl here) (inr there) = both_ways (is_kept i b) (kept i u b there) (free b here.1).1
+    only w u b (inr there) (inl here) = both_ways (is_kept i b) (kept i w b there) (free b here.1).1
+    only w u b (inr p) (inr q) = h.alone w u b p q
+
+-- where no section of a variable is open none is kept
+pub none_kept : (j : Joint) (b : ℕ) → is_open_at_variables j ≡ false → is_kept j b ≡ false
+none_kept j b shut = go (is_kept j b) refl
+  where
+    go : (x : Bool) → is_kept j b ≡ x → is_kept j b ≡ false
+    go true e =
+        let (v, at) = keeper j b e in
+        both_ways (is_open_at_variables j) (open_at j.vars v (is_in (buckets j) v (var_at j v) b at)) shut
+    go false e = e

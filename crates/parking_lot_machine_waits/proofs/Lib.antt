@@ -1,4 +1,7 @@
 mod AnySections
+pub mod Keepers
+mod Movers
+pub mod Opened
 pub mod Owning
 pub mod KeptWhole
 pub mod NewWhole

@@ -1,11 +1,9 @@
 -- What one in no call at a variable does at the locks leaves a machine whole: it begins a call, makes a step, or its
 -- deadline comes.
-use Rattle.parking_lot_machine_waits.specs.Joint.{any_section}
-use Rattle.parking_lot_machine_waits.specs.Joint.{is_open_at_locks}
 use Rattle.std.proofs.Common.{◌≡◌, ◌≢◌, ◌⊎◌, inl, inr, ℕ, zero, suc, ◌+◌, ◌*◌, ◌==◌, ◌<◌, Bool, true, false, not, cond}
-use Rattle.std.proofs.Common.{nat_lt, ◌&&◌, is_some, is_none, List, [], ◌∷◌, length, Option, Some, None, option_map}
+use Rattle.std.proofs.Common.{nat_lt, is_some, is_none, List, [], ◌∷◌, length, Option, Some, None, option_map}
 use Rattle.std.proofs.Common.{slice_get, slice_set, refl, sym, ap, ◌∙◌, subst, arith, eqb-true}
-use Rattle.std.specs.Option.{option_map_or, unwrap_or}
+use Rattle.std.specs.Option.{option_and_then, option_map_or, unwrap_or}
 use Rattle.std.proofs.lemmas.Bool.{cases_lt, ltb-true}
 use Rattle.std.proofs.lemmas.List.{length-set}
 use Rattle.std.proofs.lemmas.Option.{none-some, same_Some, slice_get_past}
@@ -33,12 +31,12 @@ use Rattle.parking_lot_machine.specs.RowFits.{FitsTogether}
 use Rattle.parking_lot_machine_calls.specs.CallKinds.{IsOfKind}
 use Rattle.parking_lot_machine.specs.Rows.{State, call_at as row_call_at, hold_at, hold_in, state}
 use Rattle.parking_lot_machine_waits.specs.declared.seat.Seat.{Seat}
-use Rattle.parking_lot_machine_waits.specs.Joint.{Joint, asking_number, busy_by, busy_number, call_in, core_enters}
-use Rattle.parking_lot_machine_waits.specs.Joint.{has_by_second, is_entered, is_open_at_variables, is_var, nowhere}
-use Rattle.parking_lot_machine_waits.specs.Joint.{number, row_goes, seat_at, var_at, var_in}
+use Rattle.parking_lot_machine_waits.specs.Joint.{Joint, asking_number, buckets, busy_by, busy_number, call_enters}
+use Rattle.parking_lot_machine_waits.specs.Joint.{call_in, has_by_second, is_kept, is_open_in, is_that, is_var, keeps}
+use Rattle.parking_lot_machine_waits.specs.Joint.{keeps_out, nowhere, number, row_goes, seat_at, var_at, var_in}
 use Rattle.parking_lot_machine_waits.specs.JointMoves.{is_free, may_ask}
 use Rattle.parking_lot_machine_waits.specs.JointSteps.{IsAsked}
-use Rattle.parking_lot_machine_waits.specs.Whole.{IsIn, IsWhole, asks, asks_on, gives, place_of}
+use Rattle.parking_lot_machine_waits.specs.Whole.{Apart, IsIn, IsWhole, asks, asks_on, gives, place_of}
 use Rattle.parking_lot_machine_waits.proofs.Hearing.{both_true}
 use Rattle.parking_lot_machine_waits.proofs.Keeping.{Anew, AreShut, HoldsWhole, RowsKept, Stays, fewer_open, has_place}
 use Rattle.parking_lot_machine_waits.proofs.Keeping.{is, is_not, none_still, rows_by, seats_same, untouched, vars_same}
@@ -58,7 +56,8 @@ pub written_rows : (i j : Joint) (t : ℕ) (b : Bool) (c : Call) → state j.row
     c → RowsKept i j (is t)
 written_rows i j t b c e =
     rows_by i j t b (ap (λ (y : State). length y.calls) e ∙ length-set (state i.rows).calls (number i t b) (Some c))
-    (ap (λ (y : State). y.kinds) e) (written_stays (state i.rows) (state j.rows) (number i t b) c e)
+    (ap (λ (y : State). y.kinds) e) (ap (λ (y : State). y.lot.buckets) e)
+    (written_stays (state i.rows) (state j.rows) (number i t b) c e)
 
 pub written_holds : (s u : State) (k : ℕ) (c : Call) → u ≡ with_call s k c → HoldsWhole s → HoldsWhole u
 written_holds s u k c e h = subst HoldsWhole (sym e) h
@@ -77,16 +76,15 @@ kept_holds s u kinds holds h k n kind =
 -- SECTIONS
 
 -- where the variables are the same
-pub same_shut : (i j : Joint) → IsWhole i → j.vars ≡ i.vars → (is_open_at_locks j ≡ false)
-    ⊎ (is_open_at_variables i ≡ false) → AreShut j
-same_shut i j h vars sections =
-    fewer_open i j h (λ v e. ap (λ (vs : List (Option Var)). is_entered (var_in vs v)) (sym vars) ∙ e) sections
+pub same_shut : (i j : Joint) → IsWhole i → j.vars ≡ i.vars → buckets j ≡ buckets i → Apart (state j.rows) i → AreShut j
+same_shut i j h vars same sections =
+    fewer_open i j h (λ v b e. ap (λ (m : ℕ). keeps m v (var_at i v) b) (sym same)
+    ∙ (ap (λ (vs : List (Option Var)). keeps (buckets j) v (var_in vs v) b) (sym vars) ∙ e)) sections
 
 -- where no section of a lock is opened
 pub written_sections : (i j : Joint) (k : ℕ) (c : Call) → IsWhole i → state j.rows ≡ with_call (state i.rows) k c
-    → (is_open_at_locks j ≡ false) ⊎ (is_open_at_variables i ≡ false)
-written_sections i j k c h e = subst (λ (y : State). (any_section y ≡ false) ⊎ (is_open_at_variables i ≡ false)) (sym e)
-    h.sections
+    → Apart (state j.rows) i
+written_sections i j k c h e = subst (λ (y : State). Apart y i) (sym e) h.sections
 
 -- TWO NUMBERS
 
@@ -130,7 +128,7 @@ module _ (i j : Joint) (t : ℕ) (h : IsWhole i) (low : t < length i.seats) (fre
   -- one of its numbers is in another call then, and the other in none
   pub free_whole : (b : Bool) → RowsKept i j (is t) → row_call_at (state j.rows) (number i t (not b)) ≡ None
       → ((c : Call) → row_call_at (state j.rows) (number i t b) ≡ Some c → var_at i c.lock ≡ None)
-      → HoldsWhole (state j.rows) → (is_open_at_locks j ≡ false) ⊎ (is_open_at_variables i ≡ false) → IsWhole j
+      → HoldsWhole (state j.rows) → Apart (state j.rows) i → IsWhole j
   free_whole b rows other own holds sections =
       whole_still i j (is t) h
       (record { rows = rows; vars = vars_same i j (is t) vars; seats = seats_same i j (is t) seats; low = low_of })
@@ -138,7 +136,7 @@ module _ (i j : Joint) (t : ℕ) (h : IsWhole i) (low : t < length i.seats) (fre
       (anew_free j t (ap (λ (ss : List Seat). (unwrap_or (slice_get ss t) nowhere).at) seats ∙ free)
       (λ v. ap (λ (vs : List (Option Var)). call_in (var_in vs v) t) vars ∙ free_at i h t free v) (one_of b other)
       clear))
-      (same_shut i j h vars sections) holds
+      (same_shut i j h vars rows.buckets sections) holds
     where
       moved : (c : Call) (x y : Bool) → x ≡ y → row_call_at (state j.rows) (number j t x) ≡ Some c
           → row_call_at (state j.rows) (number i t y) ≡ Some c
@@ -227,7 +225,7 @@ in_on sort s u k m x keeps on =
     }
 
 -- each number stays where none's call is over
-pub kept_stays : {b : Bool} (s u : State) → Kept b s u → (k : ℕ) → Stays s u k
+pub kept_stays : {b : Option ℕ} (s u : State) → Kept b s u → (k : ℕ) → Stays s u k
 kept_stays s u x k = record {
   same = kept_same s u x k;
   giving = λ m at. in_on gives s u k m at (λ c d still. still.gives) (x.calls.each k);
@@ -321,13 +319,28 @@ over_holds s u t a fits x h = subst HoldsWhole (sym x.became) at
         by true e was = within k n (ltb-true n (length s.kinds) e) kind was
         by false e was = was
 
--- no section of a variable is open beside one of a lock, where none is entered beside another
-pub one_section : (enters beside o p : Bool) → (enters ≡ false → o ≡ false → p ≡ false)
-    → not (enters && beside) ≡ true → (o ≡ false) ⊎ (beside ≡ false) → (p ≡ false) ⊎ (beside ≡ false)
-one_section enters beside o p closed may (inr shut) = inr shut
-one_section false beside o p closed may (inl none) = inl (closed refl none)
-one_section true true o p closed may (inl none) = absurd cc
-one_section true false o p closed may (inl none) = inr refl
+-- No section of a variable is open in the bucket of one of a lock, where a bucket is entered in which none is.
+pub one_section : (i : Joint) (enters : Option ℕ) (s u : State)
+    → ((b : ℕ) → is_that enters b ≡ false → is_open_in s b ≡ false → is_open_in u b ≡ false)
+    → not (keeps_out i enters) ≡ true → Apart s i → Apart u i
+one_section i enters s u closed may apart b = elim (apart b) [
+  | inl none ↦ by (is_that enters b) refl none
+  | inr shut ↦ inr shut
+]
+  where
+    kept_not : (o : Option ℕ) → not (keeps_out i o) ≡ true → is_that o b ≡ true → is_kept i b ≡ false
+    kept_not None may that = absurd cc
+    kept_not (Some a) may that = subst (λ (k : ℕ). is_kept i k ≡ false) (sym (eqb-true b a that))
+        (is_not_so (is_kept i a) may)
+      where
+        is_not_so : (x : Bool) → not x ≡ true → x ≡ false
+        is_not_so true e = absurd cc
+        is_not_so false e = refl
+
+    by : (x : Bool) → is_that enters b ≡ x → is_open_in s b ≡ false
+        → (is_open_in u b ≡ false) ⊎ (is_kept i b ≡ false)
+    by true that none = inr (kept_not enters may that)
+    by false other none = inl (closed b other none)
 
 -- It makes a step there, or its deadline comes.
 module _ (i j : Joint) (t : ℕ) (h : IsWhole i) (fits : FitsTogether (state i.rows)) (low : t < length i.seats)
@@ -343,33 +356,35 @@ module _ (i j : Joint) (t : ℕ) (h : IsWhole i) (fits : FitsTogether (state i.r
       let (d, was, lock) = has_place (row_call_at s k) c.lock (sym e ∙ ap (option_map (λ (y : Call). y.lock)) here) in
       subst (λ (m : ℕ). var_at i m ≡ None) lock (h.rows k d was)
 
-  went : (b : Bool) → row_call_at s (number i t (not b)) ≡ None → (a : Option CoreAnswer) (enters : Bool)
-      → not (enters && is_open_at_variables i) ≡ true → Goes a enters (number i t b) s u → IsWhole j
+  went : (b : Bool) → row_call_at s (number i t (not b)) ≡ None → (a : Option CoreAnswer) (enters : Option ℕ)
+      → not (keeps_out i enters) ≡ true → Goes a enters (number i t b) s u → IsWhole j
   went b other None enters may x =
-      free_whole i j t h low free vars seats b (rows_by i j t b x.calls.count x.kinds (λ k ne. kept_stays s u x k))
+      free_whole i j t h low free vars seats b
+      (rows_by i j t b x.calls.count x.kinds x.buckets (λ k ne. kept_stays s u x k))
       (none_still s u _ (kept_stays s u x _) other)
       (λ c here. still_clear _ c (kept_same s u x _).place here) (kept_holds s u x.kinds x.holds h.holds)
-      (one_section enters (is_open_at_variables i) (any_section s) (any_section u) x.closed may h.sections)
+      (one_section i enters s u x.closed may h.sections)
   went b other (Some a) enters may x =
       free_whole i j t h low free vars seats b
       (rows_by i j t b (ap (λ (y : State). length y.calls) x.became ∙ length-set s.calls (number i t b) None)
-      (ap (λ (y : State). y.kinds) x.became) (over_stays s u (number i t b) a fits x))
+      (ap (λ (y : State). y.kinds) x.became) (ap (λ (y : State). y.lot.buckets) x.became)
+      (over_stays s u (number i t b) a fits x))
       (none_still s u _ (over_stays s u (number i t b) a fits x _ (own_apart (length i.seats) t b low)) other)
       (λ c here. absurd (none-some c
       (sym (ap (λ (y : State). row_call_at y (number i t b)) x.became ∙ call_here s.calls (number i t b) None
       (number_low i h t b low)) ∙ here)))
       (over_holds s u (number i t b) a fits x h.holds)
-      (subst (λ (y : State). (any_section y ≡ false) ⊎ (is_open_at_variables i ≡ false)) (sym x.became) h.sections)
+      (subst (λ (y : State). Apart y i) (sym x.became) h.sections)
 
   pub step_keeps : (fair : Bool) (a : Option CoreAnswer) → row_goes i (busy_number i t) ≡ true
       → rows.IsStepped (busy_number i t) fair a s u → IsWhole j
   step_keeps fair a can x =
       let (b, at, other) = busy i t h free in
-      went b other a (core_enters x.call.core)
-      (ap (λ (o : Option Call). not
-      (option_map_or (λ (c : Call). core_enters c.core) o false && is_open_at_variables i)) (sym x.here)
+      went b other a (call_enters (buckets i) x.call)
+      (ap (λ (o : Option Call). not (keeps_out i (option_and_then (call_enters (buckets i)) o))) (sym x.here)
       ∙ (both_true _ _ can).1)
-      (subst (λ (k : ℕ). Goes a (core_enters x.call.core) k s u) at (stepped_goes s u (busy_number i t) fair a fits x))
+      (subst (λ (k : ℕ). Goes a (call_enters (buckets i) x.call) k s u) at
+      (stepped_goes s u (busy_number i t) fair a fits x))
 
   pub deadline_keeps : rows.IsExpired (busy_number i t) s u → IsWhole j
   deadline_keeps x =

@@ -1,6 +1,7 @@
 -- A notification that takes waiters off the list, and wakes them or moves them to their mutex, leaves a machine whole.
 use Rattle.std.proofs.Common.{◌≡◌, ◌≢◌, ℕ, ◌+◌, ◌-◌, ◌==◌, ◌<◌, ◌||◌, Bool, true, false, not, is_some, cond, List}
-use Rattle.std.proofs.Common.{length, take, Option, Some, None, option_map, slice_get, slice_set, inl, refl, sym, ap}
+use Rattle.std.proofs.Common.{length, take, Option, Some, None, option_map, slice_get, slice_set, inl, inr, refl, sym}
+use Rattle.std.proofs.Common.{ap}
 use Rattle.std.proofs.Common.{◌∙◌, subst, arith, eqb-true}
 use Rattle.std.specs.Option.{unwrap_or}
 use Rattle.std.proofs.lemmas.Bool.{or_right}
@@ -23,7 +24,7 @@ use Rattle.parking_lot_machine_waits.specs.Moving.{NotifiesIn, back_in, taken_of
 use Rattle.parking_lot_machine_waits.specs.Turns.{mutex_of, turn_of}
 use Rattle.parking_lot_machine_waits.specs.Whole.{AtMutex, Asks, IsIn, IsSo, IsWhole, Notifies, Stands, Waits, asks}
 use Rattle.parking_lot_machine_waits.specs.Whole.{front_of}
-use Rattle.parking_lot_machine_waits.proofs.Allowing.{Waiter, here_too, locks_closed, not_itself, thread_low, waiter}
+use Rattle.parking_lot_machine_waits.proofs.Allowing.{Waiter, here_too, not_itself, thread_low, waiter}
 use Rattle.parking_lot_machine_waits.proofs.Keeping.{Anew, RowsKept, Stays, VarsKept, is, is_not, low_at, none_still}
 use Rattle.parking_lot_machine_waits.proofs.Keeping.{seats_same, var_elsewhere, var_here, var_shut, vars_among}
 use Rattle.parking_lot_machine_waits.proofs.Keeping.{whole_still}
@@ -84,7 +85,7 @@ module _ (i j : Joint) (t v : ℕ) (c : OpenCall) (x y : Var) (h : IsWhole i) (a
       (λ w e. ne w (seat_at i w).second (or_right (is t w) (member w ws) e))
 
   rows : RowsKept i j mine
-  rows = record { count = moved.count; kinds = moved.kinds; others = others_stay }
+  rows = record { count = moved.count; kinds = moved.kinds; buckets = moved.buckets; others = others_stay }
 
   -- the numbers of the one that notifies, and that by which a waiter gives its mutex up
   own_stays : (second : Bool) → Stays s u (number i t second)
@@ -194,8 +195,8 @@ module _ (i j : Joint) (t v : ℕ) (c : OpenCall) (x y : Var) (h : IsWhole i) (a
   all_moved =
       whole_still i j mine h
       (record { rows = rows; vars = vars_kept; seats = seats_same i j mine seats; low = each_low }) each
-      (var_shut i j h v x y at vars (λ e. ap (λ o. is_some o) (sym told.inside) ∙ e)
-      (inl (moved.closed (locks_closed i v t x h at inside))))
+      (var_shut i j h moved.buckets v x y at vars (λ e. (ap (λ o. is_some o) (sym told.inside) ∙ e, told.beside))
+      (λ b. elim (h.sections b) [ inl e ↦ inl (moved.closed b e) | inr e ↦ inr e ]))
       (kept_holds s u moved.kinds moved.holds h.holds)
 
 -- It takes all, or the first.
@@ -220,7 +221,8 @@ module _ (i j : Joint) (t v : ℕ) (c : OpenCall) (h : IsWhole i) (fits : PartsF
       many : ℕ
       many = length (take (taken_of c.call (length x.queue)) x.queue)
 
-      knows : IsNotify c.call × ((mark.all ≡ is_of_all c.call) × (c.taken ≡ 0))
+      knows : IsNotify c.call
+          × ((mark.all ≡ is_of_all c.call) × (c.taken ≡ 0) × (x.beside ≡ Some (x.word - 1)))
       knows = marks_knows x t c mark.all known.0 there mark.is
 
       told : Notified t many x y

@@ -1,8 +1,7 @@
 -- A wait's steps of giving its mutex up and of locking it again leave a machine whole, and so does its deadline.
-use Rattle.parking_lot_machine_waits.specs.Joint.{any_section}
-use Rattle.std.proofs.Common.{◌≡◌, ◌⊎◌, ℕ, Bool, true, false, not, ◌&&◌, length, Option, Some, None, refl, sym, ap, ◌∙◌}
+use Rattle.std.proofs.Common.{◌≡◌, ℕ, Bool, true, false, not, length, Option, Some, None, refl, sym, ap, ◌∙◌}
 use Rattle.std.proofs.Common.{subst}
-use Rattle.std.specs.Option.{option_map_or}
+use Rattle.std.specs.Option.{option_and_then, option_map_or}
 use Rattle.std.proofs.lemmas.List.{length-set}
 use Rattle.parking_lot_protocol.specs.declared.act.CoreAnswer.{CoreAnswer}
 use Rattle.parking_lot_protocol_waits.specs.declared.wait_act.WaitSeen.TheVariants as wait_seen
@@ -21,12 +20,14 @@ use Rattle.parking_lot_machine_sides.specs.Condvar.Outsides.{hears_by, may_hear,
 use Rattle.parking_lot_machine_calls.specs.declared.open_call.Call.{Call}
 use Rattle.parking_lot_machine.specs.Machines as rows
 use Rattle.parking_lot_machine.specs.Rows.{Rows, State, state}
-use Rattle.parking_lot_machine_waits.specs.Joint.{Joint, back_number, call_at, call_in, core_enters, front_number}
-use Rattle.parking_lot_machine_waits.specs.Joint.{is_open_at_variables, number, row_goes, seat_at, var_at, var_hears}
+use Rattle.parking_lot_machine_waits.specs.Joint.{Joint, back_number, buckets, call_at, call_enters, call_in}
+use Rattle.parking_lot_machine_waits.specs.Joint.{front_number, keeps_out, number, row_goes, seat_at, var_at}
+use Rattle.parking_lot_machine_waits.specs.Joint.{var_hears}
 use Rattle.parking_lot_machine_waits.specs.JointLaws.{PartsFit}
 use Rattle.parking_lot_machine_waits.specs.JointSteps.{HearsAt, HearsOf}
 use Rattle.parking_lot_machine_waits.specs.Turns.{mutex_of}
-use Rattle.parking_lot_machine_waits.specs.Whole.{AtMutex, Owns, Away, IsSo, IsWhole, Stands, Waits, away_or_asks}
+use Rattle.parking_lot_machine_waits.specs.Whole.{Apart, AtMutex, Owns, Away, IsSo, IsWhole, Stands, Waits}
+use Rattle.parking_lot_machine_waits.specs.Whole.{away_or_asks}
 use Rattle.parking_lot_machine_waits.specs.Whole.{back_of, front_of, named}
 use Rattle.parking_lot_machine_waits.proofs.Ending.{gave, got}
 use Rattle.parking_lot_machine_waits.proofs.Hearing.{both_true}
@@ -57,29 +58,31 @@ module _ (i j : Joint) (t v : ℕ) (c : OpenCall) (p : WaitPhase) (h : IsWhole i
     stands = stood i j t v c p h fits here core_is
 
     -- no section of a variable is open beside one of a lock then
-    pub went_sections : (b enters : Bool) (a : Option CoreAnswer) → not (enters && is_open_at_variables i) ≡ true
-        → Goes a enters (number i t b) s u → (any_section u ≡ false) ⊎ (is_open_at_variables i ≡ false)
+    pub went_sections : (b : Bool) (enters : Option ℕ) (a : Option CoreAnswer) → not (keeps_out i enters) ≡ true
+        → Goes a enters (number i t b) s u → Apart u i
     went_sections b enters None may x =
-        one_section enters (is_open_at_variables i) (any_section s) (any_section u) x.closed
-        may h.sections
+        one_section i enters s u x.closed may h.sections
     went_sections b enters (Some a) may x =
-        subst (λ (y : State). (any_section y ≡ false) ⊎ (is_open_at_variables i ≡ false)) (sym x.became) h.sections
+        subst (λ (y : State). Apart y i) (sym x.became) h.sections
 
-    pub went_rows : (b enters : Bool) (a : Option CoreAnswer) → Goes a enters (number i t b) s u → RowsKept i j (is t)
-    went_rows b enters None x = rows_by i j t b x.calls.count x.kinds (λ k ne. kept_stays s u x k)
+    pub went_rows : (b : Bool) (enters : Option ℕ) (a : Option CoreAnswer) → Goes a enters (number i t b) s u
+        → RowsKept i j (is t)
+    went_rows b enters None x = rows_by i j t b x.calls.count x.kinds x.buckets (λ k ne. kept_stays s u x k)
     went_rows b enters (Some a) x =
         rows_by i j t b (ap (λ (y : State). length y.calls) x.became ∙ length-set s.calls (number i t b) None)
-        (ap (λ (y : State). y.kinds) x.became) (over_stays s u (number i t b) a fits.rows x)
+        (ap (λ (y : State). y.kinds) x.became) (ap (λ (y : State). y.lot.buckets) x.became)
+        (over_stays s u (number i t b) a fits.rows x)
 
-    pub went_holds : (b enters : Bool) (a : Option CoreAnswer) → Goes a enters (number i t b) s u → HoldsWhole u
+    pub went_holds : (b : Bool) (enters : Option ℕ) (a : Option CoreAnswer) → Goes a enters (number i t b) s u
+        → HoldsWhole u
     went_holds b enters None x = kept_holds s u x.kinds x.holds h.holds
     went_holds b enters (Some a) x = over_holds s u (number i t b) a fits.rows x h.holds
 
     -- its call there goes on, and it stands as it stood
-    pub goes_there : (enters : Bool) → RowsKept i j (is t) → HoldsWhole u → (any_section u ≡ false)
-        ⊎ (is_open_at_variables i ≡ false) → Kept enters s u → j.vars ≡ i.vars → IsWhole j
+    pub goes_there : (enters : Option ℕ) → RowsKept i j (is t) → HoldsWhole u → Apart u i → Kept enters s u
+        → j.vars ≡ i.vars → IsWhole j
     goes_there enters rows holds sections x vars =
-        stays_there i j t v c h here seats rows holds (same_shut i j h vars sections) vars
+        stays_there i j t v c h here seats rows holds (same_shut i j h vars rows.buckets sections) vars
         (subst (Stands j t c) (sym core_is) (record {
           names = stands.names;
           mutex = mutex_stays i j lock rows.kinds ((vars_same i j (is t) vars).plain lock) stands.mutex;
@@ -87,19 +90,19 @@ module _ (i j : Joint) (t v : ℕ) (c : OpenCall) (p : WaitPhase) (h : IsWhole i
           back = back_still i j t seats (back_of c.listed p) lock (kept_stays s u x (back_number i t)) stands.back;
         }))
 
--- whether a section is entered by that step
+-- no section of a variable keeps it out of the bucket that is entered by that step
 pub enters_beside : (i : Joint) (k : ℕ) (fair : Bool) (a : Option CoreAnswer) (u : State) → row_goes i k ≡ true
-    → (x : rows.IsStepped k fair a (state i.rows) u) → not (core_enters x.call.core && is_open_at_variables i) ≡ true
+    → (x : rows.IsStepped k fair a (state i.rows) u) → not (keeps_out i (call_enters (buckets i) x.call)) ≡ true
 enters_beside i k fair a u can x =
-    ap (λ (o : Option Call). not (option_map_or (λ (c : Call). core_enters c.core) o false && is_open_at_variables i))
-    (sym x.here) ∙ (both_true _ _ can).1
+    ap (λ (o : Option Call). not (keeps_out i (option_and_then (call_enters (buckets i)) o))) (sym x.here)
+    ∙ (both_true _ _ can).1
 
 -- IT GIVES THE MUTEX UP
 
 module _ (i j : Joint) (t v n : ℕ) (c : OpenCall) (fair : Bool) (h : IsWhole i) (fits : PartsFit i)
     (here : call_at i v t ≡ Some c) (core_is : c.core ≡ core.Wait (record { phase = w.Unlocks n }))
     (seats : j.seats ≡ i.seats) where
-  gave_up : (enters : Bool) (a : Option CoreAnswer) → not (enters && is_open_at_variables i) ≡ true
+  gave_up : (enters : Option ℕ) (a : Option CoreAnswer) → not (keeps_out i enters) ≡ true
       → Goes a enters (front_number i t) (state i.rows) (state j.rows) → HearsOf a t v i j → IsWhole j
   gave_up enters None may x vars =
       goes_there i j t v c (w.Unlocks n) h fits here core_is seats enters
@@ -124,7 +127,7 @@ module _ (i j : Joint) (t v n : ℕ) (c : OpenCall) (fair : Bool) (h : IsWhole i
 
   pub unlocks : (a : Option CoreAnswer) → row_goes i (front_number i t) ≡ true → rows.IsStepped (front_number i t) fair
       a (state i.rows) (state j.rows) → HearsOf a t v i j → IsWhole j
-  unlocks a can x hears = gave_up (core_enters x.call.core) a
+  unlocks a can x hears = gave_up (call_enters (buckets i) x.call) a
       (enters_beside i (front_number i t) fair a (state j.rows) can x)
       (stepped_goes (state i.rows) (state j.rows) (front_number i t) fair a fits.rows x) hears
 
@@ -149,7 +152,7 @@ back_ends false listed = refl
 module _ (i j : Joint) (t v : ℕ) (timed_out : Bool) (c : OpenCall) (fair : Bool) (h : IsWhole i) (fits : PartsFit i)
     (here : call_at i v t ≡ Some c) (core_is : c.core ≡ core.Wait (record { phase = w.Locks timed_out }))
     (seats : j.seats ≡ i.seats) where
-  locked : (enters : Bool) (a : Option CoreAnswer) → not (enters && is_open_at_variables i) ≡ true
+  locked : (enters : Option ℕ) (a : Option CoreAnswer) → not (keeps_out i enters) ≡ true
       → Goes a enters (back_number i t) (state i.rows) (state j.rows) → HearsOf a t v i j → IsWhole j
   locked enters None may x vars =
       goes_there i j t v c (w.Locks timed_out) h fits here core_is seats enters
@@ -178,7 +181,7 @@ module _ (i j : Joint) (t v : ℕ) (timed_out : Bool) (c : OpenCall) (fair : Boo
 
   pub locks : (a : Option CoreAnswer) → row_goes i (back_number i t) ≡ true → rows.IsStepped (back_number i t) fair a
       (state i.rows) (state j.rows) → HearsOf a t v i j → IsWhole j
-  locks a can x hears = locked (core_enters x.call.core) a
+  locks a can x hears = locked (call_enters (buckets i) x.call) a
       (enters_beside i (back_number i t) fair a (state j.rows) can x)
       (stepped_goes (state i.rows) (state j.rows) (back_number i t) fair a fits.rows x) hears
 
@@ -212,7 +215,7 @@ module _ (i j : Joint) (t v : ℕ) (c : OpenCall) (h : IsWhole i) (fits : PartsF
       let stood = stood i j t v c (w.Sleeps n) h fits here core_is in
       heard_whole i j t v c (w.Sleeps n) h fits here core_is seats rows
       (subst (λ (r : Rows). HoldsWhole (state r)) (sym same_rows) h.holds)
-      (subst (λ (r : Rows). (any_section (state r) ≡ false) ⊎ (is_open_at_variables i ≡ false)) (sym same_rows)
+      (subst (λ (r : Rows). Apart (state r) i) (sym same_rows)
       h.sections) outside.Expired hears
       (λ plain. stands_at i j t v c (w.Sleeps n) h fits here core_is (w.Expires n) rows plain stood.names
       (front_still i j t seats Away (mutex_of c.call) (all_stay (front_number i t)) stood.front)

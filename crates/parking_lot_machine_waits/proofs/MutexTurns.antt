@@ -1,6 +1,5 @@
 -- What a wait does at its mutex leaves a machine whole: it gives it up, and locks it again.
-use Rattle.parking_lot_machine_waits.specs.Joint.{any_section}
-use Rattle.std.proofs.Common.{◌≡◌, ◌≢◌, ◌⊎◌, ℕ, ◌+◌, ◌<◌, Bool, true, false, not, cond, is_some, List, length, Option}
+use Rattle.std.proofs.Common.{◌≡◌, ◌≢◌, ℕ, ◌+◌, ◌<◌, Bool, true, not, cond, is_some, List, length, Option}
 use Rattle.std.proofs.Common.{Some, None, slice_get, slice_set, refl, sym, ap, ◌∙◌, subst}
 use Rattle.std.specs.Option.{unwrap_or}
 use Rattle.std.proofs.lemmas.Option.{none-some, same_Some}
@@ -25,11 +24,12 @@ use Rattle.parking_lot_machine.specs.Machines as rows
 use Rattle.parking_lot_machine.specs.Rows.{State, state}
 use Rattle.parking_lot_machine_waits.specs.declared.seat.Seat.{Seat}
 use Rattle.parking_lot_machine_waits.specs.Joint.{Joint, back_number, call_at, call_in, front_number}
-use Rattle.parking_lot_machine_waits.specs.Joint.{is_open_at_variables, nowhere, seat_at, var_at}
+use Rattle.parking_lot_machine_waits.specs.Joint.{nowhere, seat_at, var_at}
 use Rattle.parking_lot_machine_waits.specs.JointLaws.{PartsFit}
 use Rattle.parking_lot_machine_waits.specs.JointSteps.{ActsAt, ActsIn, HearsAt, HearsIn, KnownIn, freed}
 use Rattle.parking_lot_machine_waits.specs.Turns.{mutex_of}
-use Rattle.parking_lot_machine_waits.specs.Whole.{AtMutex, Away, Gives, AsksOn, IsMutex, IsSo, IsWhole, Stands, Waits}
+use Rattle.parking_lot_machine_waits.specs.Whole.{Apart, AtMutex, Away, Gives, AsksOn, IsMutex, IsSo, IsWhole, Stands}
+use Rattle.parking_lot_machine_waits.specs.Whole.{Waits}
 use Rattle.parking_lot_machine_waits.specs.Whole.{away_or_asks, back_of, front_of, named}
 use Rattle.parking_lot_machine_waits.proofs.Ending.{begun_asking, begun_giving}
 use Rattle.parking_lot_machine_waits.proofs.Keeping.{HoldsWhole, RowsKept, Stays, is, low_at, so_still, var_shut}
@@ -127,7 +127,7 @@ module _ (i j : Joint) (t v : ℕ) (c : OpenCall) (p : WaitPhase) (h : IsWhole i
   -- TOLD OF WHAT WAS DONE THERE
 
   module _ (seats : j.seats ≡ i.seats) (rows : RowsKept i j (is t)) (holds : HoldsWhole u)
-      (sections : (any_section u ≡ false) ⊎ (is_open_at_variables i ≡ false)) where
+      (sections : Apart u i) where
     abbrev Stood : OpenCall → Type 0
     Stood d = Stands j t d d.core
 
@@ -141,7 +141,9 @@ module _ (i j : Joint) (t v : ℕ) (c : OpenCall) (p : WaitPhase) (h : IsWhole i
         let calls : y.calls ≡ slice_set x.calls t (Some d) = ap (λ (z : Var). z.calls) told_so.became
         ∙ ap (λ (b : OpenCall). slice_set x.calls t (Some (told b x.queue seen))) same in
         goes_on i j t v c h here seats rows holds
-        (var_shut i j h v x y at vars (λ e. ap (λ (z : Var). is_some z.inside) (sym told_so.became) ∙ e) sections) x
+        (var_shut i j h rows.buckets v x y at vars
+        (λ e. (ap (λ (z : Var). is_some z.inside) (sym told_so.became) ∙ e, ap (λ (z : Var). z.beside) told_so.became))
+        sections) x
         y d at calls vars
         (subst Stood (sym (told_is c x.queue seen p core_is))
         (stands (vars_at i j t v x y (Some d) at calls vars).plain))
@@ -160,7 +162,7 @@ module _ (i j : Joint) (t v : ℕ) (c : OpenCall) (p : WaitPhase) (h : IsWhole i
   -- AN ACT AT THE VARIABLE, WHICH LEAVES ITS SECTION
 
   module _ (rows : RowsKept i j (is t)) (holds : HoldsWhole u)
-      (sections : (any_section u ≡ false) ⊎ (is_open_at_variables i ≡ false)) (reply : Option CondvarReply)
+      (sections : Apart u i) (reply : Option CondvarReply)
       (seats : j.seats ≡ freed t reply i.seats) (q : WaitPhase)
       (goes : (x : Var) → wait_goes c (record { phase = p })
       (wait_sees x.word (is_left (queue_after_wait t p x.queue)) p) p ≡ Some (with_phase c q))
@@ -179,7 +181,7 @@ module _ (i j : Joint) (t v : ℕ) (c : OpenCall) (p : WaitPhase) (h : IsWhole i
         let calls : y.calls ≡ slice_set x.calls t (Some (with_phase c q)) = ap (λ (z : Var). z.calls) is_now
         ∙ ap (slice_set x.calls t) (goes x) in
         goes_on i j t v c h here stays rows holds
-        (var_shut i j h v x y at vars
+        (var_shut i j h rows.buckets v x y at vars
         (λ e. absurd (none_open (y.inside) (ap (λ (z : Var). z.inside) is_now ∙ closed x) e)) sections) x y
         (with_phase c q) at calls vars
         (stands stays (vars_at i j t v x y (Some (with_phase c q)) at calls vars).plain)
@@ -199,7 +201,7 @@ rests_listed : (o : Option Var) (t : ℕ) (c : OpenCall) (n : ℕ) → KnownIn o
     → c.core ≡ core.Wait (record { phase = w.Rests n }) → c.listed ≡ true
 rests_listed None t c n known here is = absurd (none-some c here)
 rests_listed (Some x) t c n known here is =
-    (subst (λ (k : Core). Knows c.call c.listed (length x.calls) x.word (length x.queue) c.taken k) is
+    (subst (λ (k : Core). Knows c.call c.listed (length x.calls) x.word x.beside (length x.queue) c.taken k) is
     (known.0.seated t c here).knows).1
 
 pub gives_up : (i j : Joint) (t v n : ℕ) (c : OpenCall) (reply : Option CondvarReply) → IsWhole i → PartsFit i

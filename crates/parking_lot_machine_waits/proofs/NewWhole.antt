@@ -1,7 +1,5 @@
 -- A machine where nobody has done anything is whole.
-use Rattle.parking_lot_machine_waits.specs.Joint.{any_section}
-use Rattle.parking_lot_machine_waits.proofs.AnySections.{none_open}
-use Rattle.parking_lot_core_model.specs.Buckets.{buckets_for, threads_with}
+use Rattle.parking_lot_machine_waits.proofs.Keepers.{is_in}
 use Rattle.std.proofs.Common.{◌≡◌, inl, inr, ℕ, zero, suc, ◌+◌, ◌*◌, Bool, true, false, cond, nat_lt, List, [], ◌∷◌}
 use Rattle.std.proofs.Common.{◌++◌, length, map, replicate, Option, Some, None, slice_get, refl, sym, ap, ◌∙◌}
 use Rattle.std.specs.Option.{option_and_then, option_map_or, unwrap_or}
@@ -17,11 +15,12 @@ use Rattle.parking_lot_machine_calls.specs.Beginnings.{owns_nothing}
 use Rattle.parking_lot_machine.specs.Machines.{at_rest}
 use Rattle.parking_lot_machine.specs.Rows.{State, call_at as row_call_at, hold_at, state}
 use Rattle.parking_lot_machine_waits.specs.declared.seat.Seat.{Seat}
-use Rattle.parking_lot_machine_waits.specs.Joint.{Joint, call_at, call_in, is_entered, nowhere, number, seat_at, var_at}
+use Rattle.parking_lot_machine_waits.specs.Joint.{Joint, buckets, call_at, call_in, is_entered, is_open_in}
+use Rattle.parking_lot_machine_waits.specs.Joint.{nowhere, number, seat_at, var_at}
 use Rattle.parking_lot_machine_waits.specs.Joint.{var_in}
 use Rattle.parking_lot_machine_waits.specs.JointSteps.{AreKnown, KnownIn, var_of}
 use Rattle.parking_lot_machine_waits.specs.JointProgress.{GiversAreOut}
-use Rattle.parking_lot_machine_waits.specs.Whole.{IsWhole, is_entered_at}
+use Rattle.parking_lot_machine_waits.specs.Whole.{IsWhole}
 
 count : {X : Type 0} (n : ℕ) (x : X) → length (replicate n x) ≡ n
 count zero x = refl
@@ -102,8 +101,9 @@ module _ (j : Joint) (n : ℕ) (kinds : List LockKind) (variables : List Bool)
     one = λ t at. inl (no_call (number j t false));
     rows = λ k c here. absurd (none-some c (sym (no_call k) ∙ here));
     holds = λ k m e. inr (ap owns_nothing (owns k m));
-    sections = inl (ap any_section rows ∙ none_open (buckets_for (threads_with true (2 * n))));
-    alone = λ v u e f. both_ways (is_entered_at j v) e (not_entered v (var_at j v) refl);
+    sections = λ b. inl (ap (λ (s : State). is_open_in s b) rows);
+    alone = λ v u b e f. both_ways (is_entered (var_at j v)) (is_in (buckets j) v (var_at j v) b e)
+        (not_entered v (var_at j v) refl);
   }
 
   pub new_givers : GiversAreOut j

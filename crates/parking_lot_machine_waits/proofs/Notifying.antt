@@ -20,7 +20,8 @@ use Rattle.parking_lot_machine_sides.specs.Condvar.Calls.{is_of_all, off_list}
 use Rattle.parking_lot_machine_sides.specs.Condvar.Fitting.{Fits, IsNotify, Knows}
 use Rattle.parking_lot_machine_sides.specs.Condvar.Machines.{State as Var, call_at, call_in, can_take, is_left}
 use Rattle.parking_lot_machine_sides.specs.Condvar.Machines.{may_take}
-use Rattle.parking_lot_machine_sides.specs.Condvar.Outsides.{all_taken, can_be_told, hears_by, is_whole, may_hear, told}
+use Rattle.parking_lot_machine_sides.specs.Condvar.Outsides.{all_taken, can_be_told, hears_by, is_whole, may_hear}
+use Rattle.parking_lot_machine_sides.specs.Condvar.Outsides.{told}
 use Rattle.parking_lot_machine_sides.specs.Condvar.Outsides.{told_by, woken_of}
 use Rattle.parking_lot_machine_sides.specs.Condvar.Steps.{IsTaken, IsTold}
 use Rattle.parking_lot_machine_sides.proofs.CondvarFacts.Slots.{call_here, within}
@@ -251,9 +252,9 @@ notifies t all locked c x here is none =
 -- what is known of it there
 pub marks_knows : (x : Var) (t : ℕ) (c : OpenCall) (all : Bool) → Fits x → call_at x t ≡ Some c
     → c.core ≡ core.Notify (record { phase = n.Marks all }) → IsNotify c.call
-    × ((all ≡ is_of_all c.call) × (c.taken ≡ 0))
+    × ((all ≡ is_of_all c.call) × (c.taken ≡ 0) × (x.beside ≡ Some (x.word - 1)))
 marks_knows x t c all fits here is =
-    subst (λ (k : Core). Knows c.call c.listed (length x.calls) x.word (length x.queue) c.taken k) is
+    subst (λ (k : Core). Knows c.call c.listed (length x.calls) x.word x.beside (length x.queue) c.taken k) is
     (fits.seated t c here).knows
 
 count_is : (c : CondvarCall) (n : ℕ) → IsNotify c → count_of (is_of_all c) n ≡ taken_of c n

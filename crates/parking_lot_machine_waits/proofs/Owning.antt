@@ -158,7 +158,7 @@ module _ (i j : Joint) (t v : ℕ) (c : OpenCall) (reply : CondvarReply) (h : Is
       (a, subst (Waits i t c) ends stands)
   at_end (Some x) known there (core.Notify k) e says stands =
       absurd (no_notice c.call waits
-      (subst (λ (k : Core). Knows c.call c.listed (length x.calls) x.word (length x.queue) c.taken k) e
+      (subst (λ (k : Core). Knows c.call c.listed (length x.calls) x.word x.beside (length x.queue) c.taken k) e
       (known.0.seated t c there).knows).0)
 
   ended : Some reply ≡ reply_of c → (a : WaitAnswer) × Waits i t c (w.Ends a)

@@ -1,22 +1,25 @@
--- Some thread can move, where one is in a call that doesn't wait for another.
-use Rattle.std.proofs.Common.{◌≡◌, ◌⊎◌, inl, inr, ℕ, ◌-◌, ◌<◌, ◌&&◌, ◌||◌, Bool, true, false, not, is_none, is_some}
-use Rattle.std.proofs.Common.{length, Option, Some, None, slice_get, refl, sym, ap, ◌∙◌, subst, arith, eq-eqb}
+-- A thread can move where one is in a section, or in a call that doesn't wait for another.
+use Rattle.std.proofs.Common.{cond, option_map, ◌≡◌, ◌⊎◌, inl, inr, ℕ, ◌-◌, ◌<◌, ◌&&◌, ◌||◌, Bool, true, false, not}
+use Rattle.std.proofs.Common.{is_none, is_some, length, Option, Some, None, slice_get, refl, sym, ap, ◌∙◌, subst, arith}
+use Rattle.std.proofs.Common.{eq-eqb}
 use Rattle.std.specs.Option.{option_and_then, option_map_or}
 use Rattle.std.proofs.lemmas.Bool.{cases_lt, lt-ltb}
 use Rattle.std.proofs.lemmas.Option.{none-some}
 use Rattle.parking_lot_machine_calls.specs.CallActs.{key_of}
 use Rattle.parking_lot_machine_calls.specs.LateCalls.{late_key}
 use Rattle.parking_lot_machine.specs.Rows.{open_at, State, call_at as row_call_at, state}
-use Rattle.parking_lot_machine_waits.specs.Joint.{core_enters, Joint, back_number, busy_by, busy_number, call_at}
-use Rattle.parking_lot_machine_waits.specs.Joint.{call_in, enters_at_lock, front_number, is_open_at_locks}
-use Rattle.parking_lot_machine_waits.specs.Joint.{is_open_at_variables, number, row_goes, seat_at, var_acts, var_at}
-use Rattle.parking_lot_machine_waits.specs.Joint.{var_goes}
-use Rattle.parking_lot_machine_waits.specs.JointProgress.{SomebodyInsideGoes, GiversAreOut, IsKeptOut, IsListed}
-use Rattle.parking_lot_machine_waits.specs.JointProgress.{SomebodyCanMove}
-use Rattle.parking_lot_machine_waits.specs.JointSides.{enters as thread_enters, enters_as, enters_at, turn_enters}
+use Rattle.parking_lot_machine_waits.specs.Joint.{Joint, back_number, bucket_in, buckets, busy_by, busy_number, call_at}
+use Rattle.parking_lot_machine_waits.specs.Joint.{call_enters, call_in, enters_at_lock, enters_mutex, enters_var}
+use Rattle.parking_lot_machine_waits.specs.Joint.{front_number, is_open_at_locks, is_open_at_variables}
+use Rattle.parking_lot_machine_waits.specs.Joint.{keeps_out, number, row_goes, seat_at, shuts_out, var_acts}
+use Rattle.parking_lot_machine_waits.specs.Joint.{var_at, var_goes}
+use Rattle.parking_lot_machine_waits.specs.JointProgress.{GiversAreOut, IsKeptOut, IsListed}
+use Rattle.parking_lot_machine_waits.specs.JointSides.{beside_as, beside_at, enters as thread_enters, enters_as}
+use Rattle.parking_lot_machine_waits.specs.JointSides.{enters_at, enters_beside, turn_beside, turn_enters}
 use Rattle.parking_lot_machine_waits.specs.declared.turn.Turn.{Turn}
 use Rattle.parking_lot_machine_waits.specs.declared.turn.Turn.TheVariants as turn
-use Rattle.parking_lot_machine_waits.proofs.AnySections.{none_of_key, some_open}
+use Rattle.parking_lot_machine_waits.proofs.AnySections.{none_of_key}
+use Rattle.parking_lot_machine_waits.proofs.Keeping.{none_kept}
 use Rattle.parking_lot_machine_waits.proofs.Hearing.{both_true}
 use Rattle.parking_lot_core_model.specs.declared.place.Section.{Section}
 use Rattle.parking_lot_protocol_waits.specs.declared.notify_core.NotifyPhase.{NotifyPhase}
@@ -30,8 +33,9 @@ use Rattle.parking_lot_machine_sides.specs.declared.condvar.open_call.Core.TheVa
 use Rattle.parking_lot_machine_sides.specs.declared.condvar.open_call.OpenCall.{OpenCall}
 use Rattle.parking_lot_machine_sides.specs.Condvar.Fitting.{is_the}
 use Rattle.parking_lot_machine_sides.specs.Condvar.Machines.{State as Var, may_step}
-use Rattle.parking_lot_machine_sides.specs.Condvar.Turns.{enters, enters_by, is_inside_by, is_own, is_own_by}
-use Rattle.parking_lot_machine_sides.specs.Condvar.Turns.{notify_is_inside, wait_is_inside}
+use Rattle.parking_lot_machine_sides.specs.Condvar.Turns.{enters, enters_beside as call_beside, enters_beside_by}
+use Rattle.parking_lot_machine_sides.specs.Condvar.Turns.{enters_by, is_inside_by, is_own, is_own_by, notify_enters}
+use Rattle.parking_lot_machine_sides.specs.Condvar.Turns.{notify_enters_beside, notify_is_inside, wait_is_inside}
 use Rattle.parking_lot_machine_sides.proofs.CondvarFacts.Slots.{slot, within}
 use Rattle.parking_lot_machine_calls.specs.declared.open_call.Call.{Call}
 use Rattle.parking_lot_machine_calls.specs.declared.seat.Core.{Core as RowCore}
@@ -47,52 +51,80 @@ use Rattle.parking_lot_machine_waits.specs.Turns.{notify_turn, turn_by, turn_of,
 use Rattle.parking_lot_machine_waits.specs.Whole.{AtMutex, Asks, IsIn, IsSo, IsWhole, Notifies, Stands, Waits, asks}
 use Rattle.parking_lot_machine_waits.specs.Whole.{asks_on, back_at_end, back_of, front_at_end, front_of, gives}
 use Rattle.parking_lot_machine_waits.proofs.RankParts.{idle_of}
-use Rattle.parking_lot_machine_waits.proofs.Awake.{goes_anyway, may_act, and_too, outside_too, not_strict, not_entering}
-use Rattle.parking_lot_machine_waits.proofs.Awake.{inside_enters_none, giver_awake, open_somewhere, shut_each, some_of}
+use Rattle.parking_lot_machine_waits.proofs.Awake.{may_act, and_too, outside_too, not_strict, inside_enters_none}
+use Rattle.parking_lot_machine_waits.proofs.Awake.{giver_awake, open_somewhere, shut_each, some_of}
+use Rattle.parking_lot_machine_waits.proofs.Opened.{none_shuts, or_false}
 
 -- A thread may go, and where it is to be strict, it enters no section.
 module _ (j : Joint) (h : IsWhole j) (fits : PartsFit j) (strict : Bool) where
   abbrev s : State
   s = state j.rows
 
-  abbrev goes_as : ℕ → Bool
-  goes_as u = may_go j u && not (thread_enters j u && strict)
+  -- a bucket is entered
+  abbrev pub opens : Option ℕ → Option ℕ → Bool
+  opens beside o = is_some beside || is_some o
+
+  abbrev pub goes_as : ℕ → Bool
+  goes_as u = may_go j u && not (opens (enters_beside j u) (thread_enters j u) && strict)
 
   abbrev turn_as : Turn → ℕ → ℕ → OpenCall → Bool
-  turn_as x t v c = may_turn x j t v c && not (turn_enters x j t c && strict)
+  turn_as x t v c = may_turn x j t v c && not (opens (turn_beside x j c) (turn_enters x j v t c) && strict)
 
   abbrev row_as : ℕ → Bool
-  row_as k = row_goes j k && not (enters_at_lock j k && strict)
+  row_as k = row_goes j k && not (is_some (enters_at_lock j k) && strict)
 
-  abbrev Somebody : Type 0
+  abbrev pub Somebody : Type 0
   Somebody = (u : ℕ) × (goes_as u ≡ true)
 
   -- a thread whose turn can be taken
   turns : (t v : ℕ) (c : OpenCall) → t < length j.seats → call_at j v t ≡ Some c → turn_as (turn_of c) t v c ≡ true
       → goes_as t ≡ true
   turns t v c low here goes =
-      ap (λ b. (b && may_go_at (seat_at j t).at j t) && not ((b && enters_at (seat_at j t).at j t) && strict))
-      (lt-ltb t (length j.seats) low)
-      ∙ ap (λ (o : Option ℕ). may_go_at o j t && not (enters_at o j t && strict)) (h.seated v t c here)
-      ∙ ap (λ (o : Option OpenCall). may_go_as o j t v && not (enters_as o j t && strict)) here
+      ap (λ b. (b && may_go_at (seat_at j t).at j t)
+      && not (opens (cond b (beside_at (seat_at j t).at j t) None) (cond b (enters_at (seat_at j t).at j t) None)
+      && strict)) (lt-ltb t (length j.seats) low)
+      ∙ ap (λ (o : Option ℕ). may_go_at o j t && not (opens (beside_at o j t) (enters_at o j t) && strict))
+      (h.seated v t c here)
+      ∙ ap (λ (o : Option OpenCall). may_go_as o j t v && not (opens (beside_as o j) (enters_as o j v t) && strict))
+      here
       ∙ goes
+
+  no_entry : (b : Bool) (o : Option ℕ) → b ≡ false → shuts_out j (cond b o None) ≡ false
+  no_entry true o e = absurd cc
+  no_entry false o e = refl
+
+  no_beside : (listed : Bool) (k : Core) → enters_by listed k ≡ false → enters_beside_by k ≡ None
+  no_beside listed (core.Wait q) e = refl
+  no_beside listed (core.Notify q) e = no_notice q.phase e
+    where
+      no_notice : (p : NotifyPhase) → notify_enters p ≡ false → notify_enters_beside p ≡ None
+      no_notice (n.Enters all word) f = absurd cc
+      no_notice p f = refl
 
   -- it makes its own act at the variable
   acts : (t v : ℕ) (c : OpenCall) (x : Var) → var_at j v ≡ Some x → call_at j v t ≡ Some c → is_own c ≡ true
       → (enters c ≡ false) ⊎ ((x.inside ≡ None) × (is_open_at_locks j ≡ false) × (is_open_at_variables j ≡ false))
-      → var_goes j t c (var_at j v) ≡ true
+      → var_goes j v t c (var_at j v) ≡ true
   acts t v c x at here own free =
-      ap (λ b. b && not (enters c && (is_open_at_locks j || is_open_at_variables j)))
+      ap (λ b. b && not (shuts_out j (enters_var (buckets j) v c) || shuts_out j (enters_mutex (buckets j) c)))
       (ap (λ (o : Option Var). var_acts o t) at
       ∙ ap (λ (o : Option OpenCall). option_map_or (may_step x.inside) o false)
       (sym (ap (λ (o : Option Var). call_in o t) at) ∙ here))
-      ∙ may_act (is_own c) (enters c) (is_none x.inside) (is_open_at_locks j || is_open_at_variables j) own (shut free)
+      ∙ may_act (is_own c) (enters c) (is_none x.inside)
+      (shuts_out j (enters_var (buckets j) v c) || shuts_out j (enters_mutex (buckets j) c)) own (inner free)
+      (outer free)
     where
-      shut : (enters c ≡ false) ⊎ ((x.inside ≡ None) × (is_open_at_locks j ≡ false) × (is_open_at_variables j ≡ false))
-          → (enters c ≡ false) ⊎ ((is_none x.inside ≡ true) × ((is_open_at_locks j || is_open_at_variables j) ≡ false))
-      shut (inl e) = inl e
-      shut (inr (none, locks, vars)) =
-          inr (ap (λ (o : Option ℕ). is_none o) none, ap (λ b. b || is_open_at_variables j) locks ∙ vars)
+      inner : (enters c ≡ false) ⊎ ((x.inside ≡ None) × (is_open_at_locks j ≡ false) × (is_open_at_variables j ≡ false))
+          → (enters c ≡ false) ⊎ (is_none x.inside ≡ true)
+      inner (inl e) = inl e
+      inner (inr (none, locks, vars)) = inr (ap (λ (o : Option ℕ). is_none o) none)
+
+      outer : (enters c ≡ false) ⊎ ((x.inside ≡ None) × (is_open_at_locks j ≡ false) × (is_open_at_variables j ≡ false))
+          → (shuts_out j (enters_var (buckets j) v c) || shuts_out j (enters_mutex (buckets j) c)) ≡ false
+      outer (inl e) = or_false _ _ (no_entry (enters c) (Some (bucket_in (buckets j) v)) e)
+          (ap (λ (o : Option ℕ). shuts_out j (option_map (bucket_in (buckets j)) o)) (no_beside c.listed c.core e))
+      outer (inr (none, locks, vars)) = or_false _ _ (none_shuts j fits locks vars (enters_var (buckets j) v c))
+          (none_shuts j fits locks vars (enters_mutex (buckets j) c))
 
   -- INSIDE A VARIABLE'S SECTION
 
@@ -101,12 +133,20 @@ module _ (j : Joint) (h : IsWhole j) (fits : PartsFit j) (strict : Bool) where
         → turn_as turn.Acts t v c ≡ true
     acts_in k is own outside =
         let out = ap (enters_by c.listed) is ∙ outside in
-        outside_too (var_goes j t c (var_at j v)) (enters c) strict
-        (acts t v c x at here (ap (is_own_by c.listed) is ∙ own) (inl out)) out
+        outside_too (var_goes j v t c (var_at j v)) (opens (enters_mutex (buckets j) c) (enters_var (buckets j) v c))
+        strict
+        (acts t v c x at here (ap (is_own_by c.listed) is ∙ own) (inl out))
+        (none_opened (enters c) out (call_beside c) (no_beside c.listed c.core out))
+      where
+        none_opened : (e : Bool) → e ≡ false → (o : Option ℕ) → o ≡ None
+            → opens (option_map (bucket_in (buckets j)) o) (cond e (Some (bucket_in (buckets j) v)) None) ≡ false
+        none_opened true f o g = absurd cc
+        none_opened false f None g = refl
+        none_opened false f (Some m) g = absurd cc
 
     -- a turn that begins a call at the mutex enters none
-    gives_on : turn_as turn.Acts t v c ≡ true → (var_goes j t c (var_at j v) && true) ≡ true
-    gives_on goes = and_too (var_goes j t c (var_at j v)) false (both_true _ _ goes).0 refl
+    gives_on : turn_as turn.Acts t v c ≡ true → (var_goes j v t c (var_at j v) && true) ≡ true
+    gives_on goes = and_too (var_goes j v t c (var_at j v)) false (both_true _ _ goes).0 refl
 
     wait_inside : (listed : Bool) (p : WaitPhase) → c.listed ≡ listed → c.core ≡ core.Wait (record { phase = p })
         → wait_is_inside listed p ≡ true → turn_as (wait_turn listed p) t v c ≡ true
@@ -156,7 +196,7 @@ module _ (j : Joint) (h : IsWhole j) (fits : PartsFit j) (strict : Bool) where
     core_inside (core.Notify q) is stands i = notify_inside q.phase is stands i
 
   -- whoever is in the section of a variable can move
-  var_open : is_open_at_variables j ≡ true → Somebody
+  pub var_open : is_open_at_variables j ≡ true → Somebody
   var_open e = go (open_somewhere j.vars e)
     where
       go : (v : ℕ) × (x : Var) × (slice_get j.vars v ≡ Some (Some x)) × (is_some x.inside ≡ true) → Somebody
@@ -307,9 +347,10 @@ module _ (j : Joint) (h : IsWhole j) (fits : PartsFit j) (strict : Bool) where
 
       by_seat : (o : Option ℕ) → (seat_at j t).at ≡ o → goes_as t ≡ true
       by_seat None seat =
-          ap (λ b. (b && may_go_at (seat_at j t).at j t) && not ((b && enters_at (seat_at j t).at j t) && strict))
-          (lt-ltb t (length j.seats) low)
-          ∙ ap (λ (o : Option ℕ). may_go_at o j t && not (enters_at o j t && strict)) seat
+          ap (λ b. (b && may_go_at (seat_at j t).at j t)
+          && not (opens (cond b (beside_at (seat_at j t).at j t) None) (cond b (enters_at (seat_at j t).at j t) None)
+          && strict)) (lt-ltb t (length j.seats) low)
+          ∙ ap (λ (o : Option ℕ). may_go_at o j t && not (opens (beside_at o j t) (enters_at o j t) && strict)) seat
           ∙ ap (row_as) (alone b (h.one t seat) here)
           ∙ goes
       by_seat (Some v) seat =
@@ -327,12 +368,16 @@ module _ (j : Joint) (h : IsWhole j) (fits : PartsFit j) (strict : Bool) where
 
   module _ (out : GiversAreOut j) (awake : Always AwakeCanMove) (somebody : Always RowSomebodyCanMove)
       (shut : is_open_at_variables j ≡ false) where
-    row_free : (k : ℕ) → can_move s k ≡ true → (enters_at_lock j k && strict) ≡ false → row_as k ≡ true
-    row_free k can out = and_too (row_goes j k) (enters_at_lock j k && strict)
-        (goes_anyway (can_move s k) (enters_at_lock j k) (is_open_at_variables j) can shut) out
+    row_free : (k : ℕ) → can_move s k ≡ true → (is_some (enters_at_lock j k) && strict) ≡ false → row_as k ≡ true
+    row_free k can out = and_too (row_goes j k) (is_some (enters_at_lock j k) && strict)
+        (and_too (can_move s k) (keeps_out j (enters_at_lock j k)) can (none_out (enters_at_lock j k))) out
+      where
+        none_out : (o : Option ℕ) → keeps_out j o ≡ false
+        none_out None = refl
+        none_out (Some b) = none_kept j b shut
 
     -- the one inside a section of a lock can move
-    in_section : (b : ℕ) (o : Section) → s.lot.sections b ≡ Some o → Somebody
+    pub in_section : (b : ℕ) (o : Section) → s.lot.sections b ≡ Some o → Somebody
     in_section b o is = go (row_call_at s w) refl
         (goes_on s fits.rows b o is (row_call_at s w) (fits.rows.lots.seated w (fits.rows.lots.opened b o is).2))
       where
@@ -345,9 +390,9 @@ module _ (j : Joint) (h : IsWhole j) (fits : PartsFit j) (strict : Bool) where
         outside_again : (n : ℕ) → s.lot.inside n ≡ None → w ≡ n → ⊥
         outside_again n none same = none-some o.key (sym none ∙ (ap s.lot.inside (sym same) ∙ is_inside))
 
-        enters_none : (d : Call) → row_call_at s w ≡ Some d → (enters_at_lock j w && strict) ≡ false
-        enters_none d here = ap (λ (b : Bool). b && strict)
-            (ap (λ (o : Option Call). option_map_or (λ (c : Call). core_enters c.core) o false) here
+        enters_none : (d : Call) → row_call_at s w ≡ Some d → (is_some (enters_at_lock j w) && strict) ≡ false
+        enters_none d here = ap (λ (b : Option ℕ). is_some b && strict)
+            (ap (λ (o : Option Call). option_and_then (call_enters (buckets j)) o) here
             ∙ inside_enters_none s fits.rows w d here o.key is_inside)
 
         it_goes : (d : Call) → row_call_at s w ≡ Some d → can_move s w ≡ true → (t : ℕ) (b : Bool) → t < length j.seats
@@ -387,7 +432,7 @@ module _ (j : Joint) (h : IsWhole j) (fits : PartsFit j) (strict : Bool) where
       up : (k : ℕ) (d : Call) → row_call_at s k ≡ Some d → is_asleep s k ≡ false → row_as k ≡ true
       up k d here is = row_free k
           (awake s fits.rows k d here is (λ key e. none_there (key_of d key)) (λ comes. none_there (late_key d)))
-          (not_strict (enters_at_lock j k) strict lax)
+          (not_strict (is_some (enters_at_lock j k)) strict lax)
 
       givers_go : (t : ℕ) → GiversGo t
       givers_go t v q c here is =
@@ -405,7 +450,7 @@ module _ (j : Joint) (h : IsWhole j) (fits : PartsFit j) (strict : Bool) where
                 t,
                 number_goes t b d low (givers_go t) (sym (ap (row_call_at s) at) ∙ here)
                     (sym (ap row_as at)
-                    ∙ row_free u can (not_strict (enters_at_lock j u) strict lax)),
+                    ∙ row_free u can (not_strict (is_some (enters_at_lock j u)) strict lax)),
               )
 
       module _ (t : ℕ) (low : t < length j.seats) where
@@ -446,13 +491,13 @@ module _ (j : Joint) (h : IsWhole j) (fits : PartsFit j) (strict : Bool) where
 
           -- where it isn't to be strict, it may enter
           laxly : (x : Turn) → may_turn x j t v c ≡ true → turn_as x t v c ≡ true
-          laxly x goes = and_too (may_turn x j t v c) (turn_enters x j t c && strict) goes
-              (not_strict (turn_enters x j t c) strict lax)
+          laxly x goes = and_too (may_turn x j t v c) (opens (turn_beside x j c) (turn_enters x j v t c) && strict) goes
+              (not_strict (opens (turn_beside x j c) (turn_enters x j v t c)) strict lax)
 
-          acts_now : (k : Core) → c.core ≡ k → is_own_by c.listed k ≡ true → var_goes j t c (var_at j v) ≡ true
+          acts_now : (k : Core) → c.core ≡ k → is_own_by c.listed k ≡ true → var_goes j v t c (var_at j v) ≡ true
           acts_now k is own = go (var_at j v) refl
             where
-              go : (o : Option Var) → var_at j v ≡ o → var_goes j t c (var_at j v) ≡ true
+              go : (o : Option Var) → var_at j v ≡ o → var_goes j v t c (var_at j v) ≡ true
               go None at = absurd (none-some c (sym (ap (λ (o : Option Var). call_in o t) at) ∙ here))
               go (Some x) at = acts t v c x at here (ap (is_own_by c.listed) is ∙ own)
                   (inr (
@@ -462,7 +507,7 @@ module _ (j : Joint) (h : IsWhole j) (fits : PartsFit j) (strict : Bool) where
                   ))
 
           acting : (k : Core) → c.core ≡ k → is_own_by c.listed k ≡ true → may_turn (turn_by c.listed k) j t v c
-              ≡ var_goes j t c (var_at j v) → Ends
+              ≡ var_goes j v t c (var_at j v) → Ends
           acting k is own turn =
               goes
               (laxly (turn_of c)
@@ -539,7 +584,7 @@ module _ (j : Joint) (h : IsWhole j) (fits : PartsFit j) (strict : Bool) where
           seated_core (core.Wait q) is x = by_phase c.listed q.phase refl is x
           seated_core (core.Notify q) is x = by_notice q.phase is x
 
-        quiet : is_free j t ≡ false → Ends
+        pub quiet : is_free j t ≡ false → Ends
         quiet called = by_seat (seat_at j t).at refl
           where
             by_seat : (o : Option ℕ) → (seat_at j t).at ≡ o → Ends
@@ -547,54 +592,3 @@ module _ (j : Joint) (h : IsWhole j) (fits : PartsFit j) (strict : Bool) where
             by_seat (Some v) seat =
                 let (c, here) = h.sits v t seat in
                 seated_core v c here c.core refl (h.stands v t c here)
-
--- whoever is in a section that is open can move, and enters none
-pub inside_moves : Always AwakeCanMove → Always RowSomebodyCanMove → (j : Joint) → IsWhole j → PartsFit j
-    → GiversAreOut j → (is_open_at_locks j || is_open_at_variables j) ≡ true
-    → (u : ℕ) × (may_go j u ≡ true) × (thread_enters j u ≡ false)
-inside_moves awake somebody j h fits out opened = by_variables (is_open_at_variables j) refl
-  where
-    strictly : Somebody j h fits true → (u : ℕ) × (may_go j u ≡ true) × (thread_enters j u ≡ false)
-    strictly (u, goes) =
-        let x = both_true _ _ goes in (u, x.0, not_entering (thread_enters j u) x.1)
-
-    by_locks : is_open_at_variables j ≡ false → (b : Bool) → is_open_at_locks j ≡ b
-        → (u : ℕ) × (may_go j u ≡ true) × (thread_enters j u ≡ false)
-    by_locks shut true is =
-        let (b, o, at) = some_open (state j.rows).lot.sections (state j.rows).lot.buckets is in
-        strictly (in_section j h fits true out awake somebody shut b o at)
-    by_locks shut false is =
-        absurd (nothing_open (sym (ap (λ (x : Bool). x || is_open_at_variables j) is ∙ shut) ∙ opened))
-      where
-        nothing_open : false ≡ true → ⊥
-        nothing_open e = cc
-
-    by_variables : (b : Bool) → is_open_at_variables j ≡ b → (u : ℕ) × (may_go j u ≡ true) × (thread_enters j u ≡ false)
-    by_variables true is = strictly (var_open j h fits true is)
-    by_variables false is = by_locks is (is_open_at_locks j) refl
-
-pub somebody_inside_goes : Always AwakeCanMove → Always RowSomebodyCanMove → SomebodyInsideGoes
-somebody_inside_goes awake somebody j h fits out opened = inside_moves awake somebody j h fits out opened
-
-pub somebody_can_move : Always AwakeCanMove → Always RowSomebodyCanMove → SomebodyCanMove
-somebody_can_move awake somebody j t h fits out low called = by_variables (is_open_at_variables j) refl
-  where
-    loosely : Somebody j h fits false → (u : ℕ) × (may_go j u ≡ true)
-    loosely (u, goes) = (u, (both_true _ _ goes).0)
-
-    quietly : (Somebody j h fits false) ⊎ (IsListed j t ⊎ IsKeptOut j t)
-        → ((u : ℕ) × (may_go j u ≡ true)) ⊎ (IsListed j t ⊎ IsKeptOut j t)
-    quietly (inl x) = inl (loosely x)
-    quietly (inr x) = inr x
-
-    by_locks : is_open_at_variables j ≡ false → (b : Bool) → is_open_at_locks j ≡ b
-        → ((u : ℕ) × (may_go j u ≡ true)) ⊎ (IsListed j t ⊎ IsKeptOut j t)
-    by_locks shut false is = quietly (quiet j h fits false out awake somebody shut is refl t low called)
-    by_locks shut true is =
-        let (b, o, at) = some_open (state j.rows).lot.sections (state j.rows).lot.buckets is in
-        inl (loosely (in_section j h fits false out awake somebody shut b o at))
-
-    by_variables : (b : Bool) → is_open_at_variables j ≡ b
-        → ((u : ℕ) × (may_go j u ≡ true)) ⊎ (IsListed j t ⊎ IsKeptOut j t)
-    by_variables true is = inl (loosely (var_open j h fits false is))
-    by_variables false is = by_locks is (is_open_at_locks j) refl

@@ -27,7 +27,8 @@ use Rattle.parking_lot_machine.specs.Rows.{Rows, call_at as row_call_at, state}
 use Rattle.parking_lot_machine.proofs.WakesPaying.{any_may_be_stepped}
 use Rattle.parking_lot_machine_waits.specs.declared.seat.Seat.{Seat}
 use Rattle.parking_lot_machine_waits.specs.Joint.{Joint, back_number, busy_number, call_at, call_in, enters_at_lock}
-use Rattle.parking_lot_machine_waits.specs.Joint.{front_number, has_by_second, is_open_at_variables, number, row_goes}
+use Rattle.parking_lot_machine_waits.specs.Joint.{front_number, has_by_second, is_open_at_variables, keeps_out, number}
+use Rattle.parking_lot_machine_waits.specs.Joint.{row_goes}
 use Rattle.parking_lot_machine_waits.specs.Joint.{seat_at, var_at, var_hears}
 use Rattle.parking_lot_machine_waits.specs.JointLaws.{PartsFit}
 use Rattle.parking_lot_machine_waits.specs.JointMoves.{is_free, may_ask, may_call_at, may_expire, may_go, may_go_as}
@@ -37,6 +38,7 @@ use Rattle.parking_lot_machine_waits.specs.JointRanks.{stepping_number, steps_le
 use Rattle.parking_lot_machine_waits.specs.JointSteps.{BeginsIn, HearsAt, IsAsked, IsCalled, IsLate, IsLateAt}
 use Rattle.parking_lot_machine_waits.specs.Turns.{turn_by, wait_turn}
 use Rattle.parking_lot_machine_waits.specs.Whole.{IsWhole, Notifies, Stands, Waits, back_of, front_of}
+use Rattle.parking_lot_machine_waits.proofs.Keeping.{none_kept}
 use Rattle.parking_lot_machine_waits.proofs.Hearing.{both_true, can_expire}
 use Rattle.parking_lot_machine_waits.proofs.Ranking.{Idle, away_idle, end_idle, listed_idle, owns_idle}
 use Rattle.parking_lot_machine_waits.proofs.RankParts.{busy_is, busy_least, free_number, hears_pay, idle_most}
@@ -197,16 +199,20 @@ late_costs i j t v h seat may late = go (subst (λ (o : Option ℕ). IsLateAt o 
 
 -- ONE THAT CAN'T MOVE
 
-not_row : (a b o : Bool) → o ≡ false → (a && not (b && o)) ≡ false → a ≡ false
-not_row true true true o e = absurd cc
-not_row true true false o e = absurd cc
-not_row true false o p e = absurd cc
-not_row false b o p e = refl
+not_row : (a o : Bool) → o ≡ false → (a && not o) ≡ false → a ≡ false
+not_row true true o e = absurd cc
+not_row true false o e = absurd cc
+not_row false o p e = refl
 
 -- nothing but its row shuts a number out
 row_stops : (j : Joint) (m : ℕ) → is_open_at_variables j ≡ false → row_goes j m ≡ false
     → rows.can_move (state j.rows) m ≡ false
-row_stops j m shut e = not_row (rows.can_move (state j.rows) m) (enters_at_lock j m) (is_open_at_variables j) shut e
+row_stops j m shut e = not_row (rows.can_move (state j.rows) m) (keeps_out j (enters_at_lock j m))
+    (none_out (enters_at_lock j m)) e
+  where
+    none_out : (o : Option ℕ) → keeps_out j o ≡ false
+    none_out None = refl
+    none_out (Some b) = none_kept j b shut
 
 pub stopped_lets : (j : Joint) (t u : ℕ) → PartsFit j → rows.can_move (state j.rows) (stepping_number j t) ≡ false
     → steps_left j u ≤ steps_left j t

@@ -1,5 +1,5 @@
 -- What it leaves of each number at the locks that waiters are moved to a mutex: those ask for it, and all others stay.
-use Rattle.parking_lot_machine_waits.specs.Joint.{any_section}
+use Rattle.parking_lot_machine_waits.specs.Joint.{is_open_in}
 use Rattle.parking_lot_machine_waits.proofs.AnySections.{joined_shut}
 use Rattle.parking_lot_machine.specs.Rows.{first_key}
 use Rattle.std.proofs.Common.{◌≡◌, ◌≢◌, ℕ, ◌==◌, ◌<◌, ◌||◌, Bool, true, false, List, [], ◌∷◌, length, Option, Some}
@@ -32,7 +32,8 @@ pub record RowsMoved (seats : List Seat) (lock : ℕ) (ws : List ℕ) (s u : Sta
   pub count : length u.calls ≡ length s.calls
   pub kinds : u.kinds ≡ s.kinds
   pub holds : u.holds ≡ s.holds
-  pub closed : any_section s ≡ false → any_section u ≡ false
+  pub buckets : u.lot.buckets ≡ s.lot.buckets
+  pub closed : (b : ℕ) → is_open_in s b ≡ false → is_open_in u b ≡ false
   pub each : (k : ℕ) → Now (moves seats k ws) lock s u k
 
 -- each of them is a thread's
@@ -45,21 +46,24 @@ module _ (seats : List Seat) (x : Var) (lock : ℕ) where
     count = ap (λ (y : State). length y.calls) e;
     kinds = ap (λ (y : State). y.kinds) e;
     holds = ap (λ (y : State). y.holds) e;
-    closed = λ none. ap any_section e ∙ none;
+    buckets = ap (λ (y : State). y.lot.buckets) e;
+    closed = λ b none. ap (λ (y : State). is_open_in y b) e ∙ none;
     each = λ k. untouched s u k (ap (λ (y : State). call_at y k) e) (λ m. ap (λ (y : State). hold_at y k m) e);
   }
 
   -- the first is moved, and then the rest
   one_moved : (w : ℕ) (ws : List ℕ) (s m u : State) (d : Call) → m.calls ≡ slice_set s.calls (back_in seats w) (Some d)
-      → m.kinds ≡ s.kinds → m.holds ≡ s.holds → (any_section s ≡ false → any_section m ≡ false)
+      → m.kinds ≡ s.kinds → m.holds ≡ s.holds → m.lot.buckets ≡ s.lot.buckets
+      → ((b : ℕ) → is_open_in s b ≡ false → is_open_in m b ≡ false)
       → IsIn asks m (back_in seats w) lock
       → RowsMoved seats lock ws m u → RowsMoved seats lock (w ∷ ws) s u
-  one_moved w ws s m u d calls kinds holds closed asking rest = record {
+  one_moved w ws s m u d calls kinds holds buckets closed asking rest = record {
     count = rest.count ∙ ap (λ (cs : List (Option Call)). length cs) calls ∙ length-set s.calls (back_in seats w)
         (Some d);
     kinds = rest.kinds ∙ kinds;
     holds = rest.holds ∙ holds;
-    closed = λ e. rest.closed (closed e);
+    buckets = rest.buckets ∙ buckets;
+    closed = λ b e. rest.closed b (closed b e);
     each = λ k. join k (k == back_in seats w) (moves seats k ws) refl (rest.each k);
   }
     where
@@ -93,7 +97,9 @@ module _ (seats : List Seat) (x : Var) (lock : ℕ) where
       let count = ap (λ (y : State). length y.calls) taken.became ∙ length-set s.calls (back_in seats w) _ in
       one_moved w ws s m u _ (ap (λ (y : State). y.calls) taken.became) (ap (λ (y : State). y.kinds) taken.became)
       (ap (λ (y : State). y.holds) taken.became)
-      (λ none. ap any_section taken.became ∙ joined_shut s.lot (first_key lock) none (back_in seats w))
+      (ap (λ (y : State). y.lot.buckets) taken.became)
+      (λ b none. ap (λ (y : State). is_open_in y b) taken.became
+      ∙ joined_shut s.lot (first_key lock) b none (back_in seats w))
       (taken_asking s m (back_in seats w) lock (timed_in x w) taken (first_low w ws s low))
       (all_moved ws m u (rest_low w ws s m count low) rest)
 
@@ -105,7 +111,8 @@ module _ (seats : List Seat) (x : Var) (lock : ℕ) where
   rows_moved false (w ∷ ws) s u low (m, roused, rest) =
       let count = ap (λ (y : State). length y.calls) roused.became ∙ length-set s.calls (back_in seats w) _ in
       one_moved w ws s m u _ (ap (λ (y : State). y.calls) roused.became) (ap (λ (y : State). y.kinds) roused.became)
-      (ap (λ (y : State). y.holds) roused.became) (λ none. ap any_section roused.became ∙ none)
+      (ap (λ (y : State). y.holds) roused.became) (ap (λ (y : State). y.lot.buckets) roused.became)
+      (λ b none. ap (λ (y : State). is_open_in y b) roused.became ∙ none)
       (roused_asking s m (back_in seats w) lock false roused (first_low w ws s low))
       (all_moved ws m u (rest_low w ws s m count low) rest)
 

@@ -103,6 +103,7 @@ pub record TakenSo (t n : ℕ) (x z : Var) : Type 0 where
   pub queue : z.queue ≡ drop n x.queue
   pub count : length z.calls ≡ length x.calls
   pub inside : z.inside ≡ x.inside
+  pub beside : z.beside ≡ x.beside
   pub others : (u : ℕ) → u ≢ t → var_call_at z u ≡ off_if (member u (take n x.queue)) (var_call_at x u)
 
 taken_next : (t n w : ℕ) (x y z : Var) → TakenSo t n x y → IsTaken t w y z → TakenSo t (suc n) x z
@@ -112,6 +113,7 @@ taken_next t n w x y z k s = record {
       ∙ length-set (slice_set y.calls w (option_map off_list (var_call_in y.calls w))) t _ ∙ length-set y.calls w _
       ∙ k.count;
   inside = ap (λ (v : Var). v.inside) s.became ∙ k.inside;
+  beside = ap (λ (v : Var). v.beside) s.became ∙ k.beside;
   others = λ u ne. ap (λ (v : Var). var_call_at v u) s.became
       ∙ call_elsewhere (slice_set y.calls w (option_map off_list (var_call_in y.calls w))) t u _ ne
       ∙ by u ne (w == u) refl;
@@ -139,6 +141,7 @@ taken_so t zero x z e = record {
   queue = ap (λ (v : Var). v.queue) e;
   count = ap (λ (v : Var). length v.calls) e;
   inside = ap (λ (v : Var). v.inside) e;
+  beside = ap (λ (v : Var). v.beside) e;
   others = λ u ne. ap (λ (v : Var). var_call_at v u) e;
 }
 taken_so t (suc n) x z (y, before, w, s) = taken_next t n w x y z (taken_so t n x y before) s
@@ -158,6 +161,7 @@ moved_turn locked left a b = by (not locked && nat_lt 0 b) left _
 pub record Notified (t n : ℕ) (x y : Var) : Type 0 where
   pub count : length y.calls ≡ length x.calls
   pub inside : y.inside ≡ x.inside
+  pub beside : y.beside ≡ x.beside
   pub others : (u : ℕ) → u ≢ t → var_call_at y u ≡ off_if (member u (take n x.queue)) (var_call_at x u)
   pub call : OpenCall
   pub here : var_call_at y t ≡ Some call
@@ -179,6 +183,7 @@ notified t all locked c n x y here is none low s =
       count = ap (λ (v : Var). length v.calls) s.tells.became ∙ length-set s.taken.calls t _ ∙ so.count
           ∙ ap (λ (v : Var). length v.calls) s.looks.became ∙ length-set x.calls t _;
       inside = ap (λ (v : Var). v.inside) s.tells.became ∙ so.inside ∙ ap (λ (v : Var). v.inside) s.looks.became;
+      beside = ap (λ (v : Var). v.beside) s.tells.became ∙ so.beside ∙ ap (λ (v : Var). v.beside) s.looks.became;
       others = λ u ne. (
           ap (λ (v : Var). var_call_at v u) s.tells.became ∙ call_elsewhere s.taken.calls t u _ ne ∙ so.others u ne
           ∙ ap (λ q. off_if (member u (take n q)) (var_call_at s.marked u)) (ap (λ (v : Var). v.queue) s.looks.became)

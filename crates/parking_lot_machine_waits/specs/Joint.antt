@@ -1,8 +1,9 @@
 -- What a machine of locks and condition variables consists of, and which steps it makes.
-use Rattle.std.specs.Prelude.{ℕ, ◌+◌, ◌-◌, ◌&&◌, ◌||◌, not, nat_lt, Bool, true, false, if◌then◌else◌, List, [], length}
+use Rattle.std.specs.Prelude.{ℕ, zero, suc, ◌+◌, ◌-◌, ◌*◌, ◌%◌, ◌==◌, ◌&&◌, ◌||◌, not, nat_lt, Bool, true, false}
+use Rattle.std.specs.Prelude.{if◌then◌else◌, List, [], length}
 use Rattle.std.specs.Prelude.{Option, Some, None, is_some, is_none, slice_get}
 use Rattle.std.specs.List.{list_any}
-use Rattle.std.specs.Option.{option_and_then, option_map_or, option_or, unwrap_or}
+use Rattle.std.specs.Option.{option_and_then, option_map, option_map_or, option_or, unwrap_or}
 use Rattle.parking_lot_core_model.specs.Buckets.{any_open}
 use Rattle.parking_lot_protocol.specs.declared.act.Act.{Act}
 use Rattle.parking_lot_protocol.specs.declared.act.Act.TheVariants as act
@@ -18,7 +19,8 @@ use Rattle.parking_lot_machine_calls.specs.declared.seat.Core.{Core}
 use Rattle.parking_lot_machine_calls.specs.declared.seat.Core.TheVariants as core
 use Rattle.parking_lot_machine_calls.specs.declared.seat.LatePhase.TheVariants as late
 use Rattle.parking_lot_machine_calls.specs.Beginnings.{excludes}
-use Rattle.parking_lot_machine_calls.specs.LateCalls.{late_rw_comes}
+use Rattle.parking_lot_machine_calls.specs.CallActs.{key_of}
+use Rattle.parking_lot_machine_calls.specs.LateCalls.{late_key, late_rw_comes}
 use Rattle.parking_lot_machine.specs.Machines as rows
 use Rattle.parking_lot_machine.specs.Rows.{Rows, State, state}
 use Rattle.parking_lot_machine.specs.Rows as row
@@ -105,40 +107,100 @@ any_section s = any_open s.lot.sections s.lot.buckets
 abbrev pub is_open_at_locks : Joint → Bool
 is_open_at_locks j = any_section (state j.rows)
 
-abbrev pub is_entry : Act → Bool
-is_entry (act.Enter key) = true
-is_entry other = false
+-- it is that one
+abbrev pub is_that : Option ℕ → ℕ → Bool
+is_that None b = false
+is_that (Some a) b = b == a
 
--- A call's next act at a lock enters a section. One whose moment has passed comes back into that of its list.
-abbrev pub core_enters : Core → Bool
-core_enters (core.Mutex c) = is_entry (core_act (core.Mutex c))
-core_enters (core.Rw c) = is_entry (core_act (core.Rw c))
-core_enters (core.Upgrade c) = is_entry (core_act (core.Upgrade c))
-core_enters (core.Late late.Expires) = true
-core_enters (core.Late late.Quits) = false
-core_enters (core.Late late.Masks) = false
-core_enters (core.Late late.Leaves) = false
-core_enters (core.Late late.GivesUp) = false
-core_enters (core.Late (late.WasTaken by handed)) = false
-core_enters (core.LateRw p) = late_rw_comes p
+-- How many buckets there are, that of the first key of a lock, and where a section of a lock is open.
+abbrev pub buckets : Joint → ℕ
+buckets j = (state j.rows).lot.buckets
 
-abbrev pub enters_at_lock : Joint → ℕ → Bool
-enters_at_lock j k = option_map_or (λ c. core_enters c.core) (row.call_at (state j.rows) k) false
+abbrev pub bucket_in : ℕ → ℕ → ℕ
+bucket_in m lock = 2 * lock % m
+
+abbrev pub is_open_in : State → ℕ → Bool
+is_open_in s b = is_some (s.lot.sections b)
+
+-- Who is in the section of variable v keeps the bucket of its key, and one that notifies that of the mutex too.
+abbrev pub keeps : ℕ → ℕ → Option Var → ℕ → Bool
+keeps m v None b = false
+keeps m v (Some x) b = is_some x.inside && (is_that (Some (bucket_in m v)) b
+    || is_that (option_map (bucket_in m) x.beside) b)
+
+abbrev pub keeps_at : Joint → ℕ → ℕ → Bool
+keeps_at j v b = keeps (buckets j) v (var_at j v) b
+
+-- one of the first n variables keeps a bucket
+abbrev pub any_keeps : ℕ → List (Option Var) → ℕ → ℕ → Bool
+any_keeps m vars b zero = false
+any_keeps m vars b (suc v) = keeps m v (var_in vars v) b || any_keeps m vars b v
+
+abbrev pub is_kept : Joint → ℕ → Bool
+is_kept j b = any_keeps (buckets j) j.vars b (length j.vars)
+
+-- a section is open in that bucket, of a lock or a variable
+abbrev pub is_shut : Joint → ℕ → Bool
+is_shut j b = is_open_in (state j.rows) b || is_kept j b
+
+-- The bucket of the section that a call's next act at a lock enters, of so many. One whose moment has passed comes back
+-- into that of its list.
+abbrev pub act_bucket : ℕ → Call → Act → Option ℕ
+act_bucket m c (act.Enter k) = Some (key_of c k % m)
+act_bucket m c other = None
+
+abbrev pub late_bucket : ℕ → Call → Bool → Option ℕ
+late_bucket m c true = Some (late_key c % m)
+late_bucket m c false = None
+
+abbrev pub core_enters : ℕ → Call → Core → Option ℕ
+core_enters m c (core.Mutex k) = act_bucket m c (core_act (core.Mutex k))
+core_enters m c (core.Rw k) = act_bucket m c (core_act (core.Rw k))
+core_enters m c (core.Upgrade k) = act_bucket m c (core_act (core.Upgrade k))
+core_enters m c (core.Late late.Expires) = late_bucket m c true
+core_enters m c (core.Late late.Quits) = None
+core_enters m c (core.Late late.Masks) = None
+core_enters m c (core.Late late.Leaves) = None
+core_enters m c (core.Late late.GivesUp) = None
+core_enters m c (core.Late (late.WasTaken by handed)) = None
+core_enters m c (core.LateRw p) = late_bucket m c (late_rw_comes p)
+
+abbrev pub call_enters : ℕ → Call → Option ℕ
+call_enters m c = core_enters m c c.core
+
+abbrev pub enters_at_lock : Joint → ℕ → Option ℕ
+enters_at_lock j k = option_and_then (call_enters (buckets j)) (row.call_at (state j.rows) k)
 
 -- WHICH STEPS ARE POSSIBLE
 
--- number k can make its step at a lock: it enters no section beside one in its bucket, or beside one of a variable
+-- a section of a variable keeps a step out that enters that bucket
+abbrev pub keeps_out : Joint → Option ℕ → Bool
+keeps_out j o = option_map_or (is_kept j) o false
+
+-- number k can make its step at a lock: it enters no bucket that a section is open in, of a lock or a variable
 abbrev pub row_goes : Joint → ℕ → Bool
-row_goes j k = rows.can_move (state j.rows) k && not (enters_at_lock j k && is_open_at_variables j)
+row_goes j k = rows.can_move (state j.rows) k && not (keeps_out j (enters_at_lock j k))
 
 -- thread t can make its own step at a variable
 abbrev pub var_acts : Option Var → ℕ → Bool
 var_acts None t = false
 var_acts (Some x) t = var.can_step x t
 
--- and it enters no section while another is open
-abbrev pub var_goes : Joint → ℕ → OpenCall → Option Var → Bool
-var_goes j t c x = var_acts x t && not (var_turns.enters c && (is_open_at_locks j || is_open_at_variables j))
+-- The buckets that it enters with it: that of the variable, and where it notifies that of the mutex.
+abbrev pub enters_var : ℕ → ℕ → OpenCall → Option ℕ
+enters_var m v c = (if var_turns.enters c then Some (bucket_in m v) else None)
+
+abbrev pub enters_mutex : ℕ → OpenCall → Option ℕ
+enters_mutex m c = option_map (bucket_in m) (var_turns.enters_beside c)
+
+-- a section is open there
+abbrev pub shuts_out : Joint → Option ℕ → Bool
+shuts_out j o = option_map_or (is_shut j) o false
+
+-- and it enters both at once, where no section is open in either
+abbrev pub var_goes : Joint → ℕ → ℕ → OpenCall → Option Var → Bool
+var_goes j v t c x =
+    var_acts x t && not (shuts_out j (enters_var (buckets j) v c) || shuts_out j (enters_mutex (buckets j) c))
 
 abbrev pub var_hears : Option Var → ℕ → Outside → Bool
 var_hears None t seen = false

@@ -14,7 +14,8 @@ use Rattle.parking_lot_machine.specs.Machines as rows
 use Rattle.parking_lot_machine.specs.Rows.{state}
 use Rattle.parking_lot_machine_waits.specs.declared.turn.Turn.{Turn}
 use Rattle.parking_lot_machine_waits.specs.declared.turn.Turn.TheVariants as turn
-use Rattle.parking_lot_machine_waits.specs.Joint.{Joint, asking_number, back_number, busy_number, call_at, front_number}
+use Rattle.parking_lot_machine_waits.specs.Joint.{Joint, asking_number, back_number, busy_number, call_at}
+use Rattle.parking_lot_machine_waits.specs.Joint.{front_number}
 use Rattle.parking_lot_machine_waits.specs.Joint.{is_idle, is_var, row_goes, seat_at, var_at, var_goes, var_hears}
 use Rattle.parking_lot_machine_waits.specs.Turns.{is_wait, mutex_of, turn_of}
 
@@ -53,9 +54,9 @@ may_call_at j t v c = nat_lt t (length j.seats)
 -- A thread's turn can be taken: it doesn't sleep, and enters no section that one which is open keeps out.
 abbrev pub may_turn : Turn → Joint → ℕ → ℕ → OpenCall → Bool
 may_turn turn.Sleeps j t v c = false
-may_turn turn.Acts j t v c = var_goes j t c (var_at j v)
-may_turn turn.GivesUp j t v c = var_goes j t c (var_at j v)
-may_turn turn.LocksAgain j t v c = var_goes j t c (var_at j v)
+may_turn turn.Acts j t v c = var_goes j v t c (var_at j v)
+may_turn turn.GivesUp j t v c = var_goes j v t c (var_at j v)
+may_turn turn.LocksAgain j t v c = var_goes j v t c (var_at j v)
 may_turn turn.Unlocks j t v c = row_goes j (front_number j t)
 may_turn turn.Follows j t v c = row_goes j (back_number j t)
 may_turn turn.Locks j t v c = row_goes j (back_number j t)

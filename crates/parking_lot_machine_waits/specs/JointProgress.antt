@@ -13,7 +13,7 @@ use Rattle.parking_lot_machine_waits.specs.declared.ended.Ended.{Ended}
 use Rattle.parking_lot_machine_waits.specs.declared.turn.Turn.TheVariants as turn
 use Rattle.parking_lot_machine_waits.specs.Joint.{Joint, back_number, call_at, number}
 use Rattle.parking_lot_machine_waits.specs.JointLaws.{PartsFit}
-use Rattle.parking_lot_machine_waits.specs.JointSides.{enters, is_open}
+use Rattle.parking_lot_machine_waits.specs.JointSides.{enters, enters_beside, is_open}
 use Rattle.parking_lot_machine_waits.specs.JointMoves.{is_free, may_ask, may_call_at, may_expire, may_go}
 use Rattle.parking_lot_machine_waits.specs.JointSteps.{IsAsked, IsCalled, IsGone, IsLate}
 use Rattle.parking_lot_machine_waits.specs.Turns.{turn_of}
@@ -64,4 +64,4 @@ pub record GiversStayOut : Type 0 where
 -- Where a section is open, somebody can move who enters none: whoever is inside.
 abbrev pub SomebodyInsideGoes : Type 0
 SomebodyInsideGoes = (j : Joint) → IsWhole j → PartsFit j → GiversAreOut j → is_open j ≡ true → (u : ℕ)
-    × (may_go j u ≡ true) × (enters j u ≡ false)
+    × (may_go j u ≡ true) × (enters j u ≡ None) × (enters_beside j u ≡ None)

@@ -1,5 +1,5 @@
--- What a machine of locks and condition variables is to another one beside it: who is in a call, whose next step enters
--- a section, and whether one is open.
+-- What a machine of locks and condition variables is to another one beside it: who is in a call, which buckets its next
+-- step enters, and where a section is open.
 use Rattle.std.specs.Prelude.{ℕ, ◌*◌, ◌/◌, ◌==◌, ◌&&◌, ◌||◌, not, nat_lt, if◌then◌else◌, Bool, true, false, List, []}
 use Rattle.std.specs.Prelude.{length, map, Option, Some, None}
 use Rattle.std.specs.Option.{option_map_or}
@@ -16,9 +16,10 @@ use Rattle.parking_lot_machine.specs.Rows as lists
 use Rattle.parking_lot_machine.specs.Worlds as of_locks
 use Rattle.parking_lot_machine_waits.specs.declared.turn.Turn.{Turn}
 use Rattle.parking_lot_machine_waits.specs.declared.turn.Turn.TheVariants as turn
-use Rattle.parking_lot_machine_waits.specs.Joint.{Joint, back_number, busy_number, call_at, enters_at_lock}
-use Rattle.parking_lot_machine_waits.specs.Joint.{front_number, is_open_at_locks, is_open_at_variables, is_var, number}
-use Rattle.parking_lot_machine_waits.specs.Joint.{seat_at, thread_of, var_at, waiters_of}
+use Rattle.parking_lot_machine_waits.specs.Joint.{Joint, back_number, buckets, busy_number, call_at}
+use Rattle.parking_lot_machine_waits.specs.Joint.{enters_at_lock, enters_mutex, enters_var, front_number, is_that}
+use Rattle.parking_lot_machine_waits.specs.Joint.{is_open_at_locks, is_open_at_variables, is_var, number, seat_at}
+use Rattle.parking_lot_machine_waits.specs.Joint.{thread_of, var_at, waiters_of}
 use Rattle.parking_lot_machine_waits.specs.JointMoves.{is_free}
 use Rattle.parking_lot_machine_waits.specs.Turns.{turn_of}
 
@@ -26,29 +27,49 @@ use Rattle.parking_lot_machine_waits.specs.Turns.{turn_of}
 abbrev pub is_busy : Joint → ℕ → Bool
 is_busy j t = nat_lt t (length j.seats) && not (is_free j t)
 
--- Its next step enters a section: at a variable, or by one of its numbers at a lock.
-abbrev pub turn_enters : Turn → Joint → ℕ → OpenCall → Bool
-turn_enters turn.Sleeps j t c = false
-turn_enters turn.Acts j t c = var_turns.enters c
-turn_enters turn.GivesUp j t c = false
-turn_enters turn.Unlocks j t c = enters_at_lock j (front_number j t)
-turn_enters turn.Follows j t c = enters_at_lock j (back_number j t)
-turn_enters turn.ComesBack j t c = false
-turn_enters turn.LocksAgain j t c = false
-turn_enters turn.Locks j t c = enters_at_lock j (back_number j t)
-turn_enters turn.Moves j t c = false
-turn_enters turn.Hears j t c = false
+-- The bucket that its next step enters: at a variable, or by one of its numbers at a lock.
+abbrev pub turn_enters : Turn → Joint → ℕ → ℕ → OpenCall → Option ℕ
+turn_enters turn.Sleeps j v t c = None
+turn_enters turn.Acts j v t c = enters_var (buckets j) v c
+turn_enters turn.GivesUp j v t c = None
+turn_enters turn.Unlocks j v t c = enters_at_lock j (front_number j t)
+turn_enters turn.Follows j v t c = enters_at_lock j (back_number j t)
+turn_enters turn.ComesBack j v t c = None
+turn_enters turn.LocksAgain j v t c = None
+turn_enters turn.Locks j v t c = enters_at_lock j (back_number j t)
+turn_enters turn.Moves j v t c = None
+turn_enters turn.Hears j v t c = None
 
-abbrev pub enters_as : Option OpenCall → Joint → ℕ → Bool
-enters_as None j t = false
-enters_as (Some c) j t = turn_enters (turn_of c) j t c
+abbrev pub enters_as : Option OpenCall → Joint → ℕ → ℕ → Option ℕ
+enters_as None j v t = None
+enters_as (Some c) j v t = turn_enters (turn_of c) j v t c
 
-abbrev pub enters_at : Option ℕ → Joint → ℕ → Bool
+abbrev pub enters_at : Option ℕ → Joint → ℕ → Option ℕ
 enters_at None j t = enters_at_lock j (busy_number j t)
-enters_at (Some v) j t = enters_as (call_at j v t) j t
+enters_at (Some v) j t = enters_as (call_at j v t) j v t
 
-abbrev pub enters : Joint → ℕ → Bool
-enters j t = nat_lt t (length j.seats) && enters_at (seat_at j t).at j t
+abbrev pub enters : Joint → ℕ → Option ℕ
+enters j t = (if nat_lt t (length j.seats) then enters_at (seat_at j t).at j t else None)
+
+-- A notification enters that of its mutex with it.
+abbrev pub turn_beside : Turn → Joint → OpenCall → Option ℕ
+turn_beside turn.Acts j c = enters_mutex (buckets j) c
+turn_beside x j c = None
+
+abbrev pub beside_as : Option OpenCall → Joint → Option ℕ
+beside_as None j = None
+beside_as (Some c) j = turn_beside (turn_of c) j c
+
+abbrev pub beside_at : Option ℕ → Joint → ℕ → Option ℕ
+beside_at None j t = None
+beside_at (Some v) j t = beside_as (call_at j v t) j
+
+abbrev pub enters_beside : Joint → ℕ → Option ℕ
+enters_beside j t = (if nat_lt t (length j.seats) then beside_at (seat_at j t).at j t else None)
+
+-- it enters that one
+abbrev pub enters_bucket : Joint → ℕ → ℕ → Bool
+enters_bucket j t b = is_that (enters_beside j t) b || is_that (enters j t) b
 
 -- a section is open, of a lock or a variable
 abbrev pub is_open : Joint → Bool

@@ -22,8 +22,8 @@ use Rattle.parking_lot_machine_calls.specs.declared.seat.Core.TheVariants as row
 use Rattle.parking_lot_machine_calls.specs.Beginnings.{excludes, owns_nothing}
 use Rattle.parking_lot_machine.specs.Rows.{State, call_at as row_call_at, hold_at, state}
 use Rattle.parking_lot_machine_waits.specs.declared.turn.Turn.TheVariants as turn
-use Rattle.parking_lot_machine_waits.specs.Joint.{Joint, back_number, call_at, front_number, is_entered}
-use Rattle.parking_lot_machine_waits.specs.Joint.{is_open_at_locks, is_open_at_variables, number, seat_at, var_at}
+use Rattle.parking_lot_machine_waits.specs.Joint.{Joint, back_number, call_at, front_number, is_kept, is_open_in}
+use Rattle.parking_lot_machine_waits.specs.Joint.{keeps_at, number, seat_at, var_at}
 use Rattle.parking_lot_machine_waits.specs.Turns.{mutex_of, notify_turn}
 
 -- WHAT A CALL AT A MUTEX IS FOR
@@ -205,9 +205,9 @@ abbrev pub Stands : Joint → ℕ → OpenCall → Core → Type 0
 Stands j t c (core.Wait k) = Waits j t c k.phase
 Stands j t c (core.Notify k) = Notifies j t k.phase
 
--- a section of variable v is open
-abbrev pub is_entered_at : Joint → ℕ → Bool
-is_entered_at j v = is_entered (var_at j v)
+-- In no bucket are sections open both of a lock, at those locks, and of a variable.
+abbrev pub Apart : State → Joint → Type 0
+Apart s j = (b : ℕ) → (is_open_in s b ≡ false) ⊎ (is_kept j b ≡ false)
 
 pub record IsWhole (j : Joint) : Type 0 where
   -- each thread has two numbers at the locks, and one at each variable
@@ -226,6 +226,6 @@ pub record IsWhole (j : Joint) : Type 0 where
   -- a mutex is owned whole, or not at all
   pub holds : (k m : ℕ) → slice_get (state j.rows).kinds m ≡ Some kind.Mutex
       → (excludes (hold_at (state j.rows) k m) ≡ true) ⊎ (owns_nothing (hold_at (state j.rows) k m) ≡ true)
-  -- no section of a variable is open beside one of a lock, or of another variable
-  pub sections : (is_open_at_locks j ≡ false) ⊎ (is_open_at_variables j ≡ false)
-  pub alone : (v u : ℕ) → is_entered_at j v ≡ true → is_entered_at j u ≡ true → v ≡ u
+  -- in the buckets of a variable's section none is open of a lock, or of another variable
+  pub sections : Apart (state j.rows) j
+  pub alone : (v u b : ℕ) → keeps_at j v b ≡ true → keeps_at j u b ≡ true → v ≡ u

@@ -1,72 +1,32 @@
 //! Which calls a thread may begin, and which steps it may make.
 ghost use Rattle.std.specs.Prelude.{◌≡◌, ◌<◌, length, Some};
-ghost use Rattle.parking_lot_machine_waits.specs.Joint.{core_enters, enters_at_lock, is_entry, lock_of, row_goes};
+ghost use Rattle.parking_lot_machine_waits.specs.Joint.{lock_of, row_goes};
 ghost use Rattle.parking_lot_machine_waits.specs.Joint.{var_at, var_goes, var_hears, waiters_of};
 ghost use Rattle.parking_lot_machine_waits.specs.JointMoves.{has_mutex, is_free, may_ask, may_call, may_call_at};
 ghost use Rattle.parking_lot_machine_waits.specs.JointMoves.{may_expire, may_expire_as, may_go, may_go_as, sleeps_on};
 
 use crate::machines::Machines;
 use crate::turn::{Turn, is_wait, mutex_of, turn_of};
-use parking_lot_machine::{Core, LatePhase, LateRwPhase, LockCall, LockKind};
+use parking_lot_machine::{LockCall, LockKind};
 use parking_lot_machine_sides::condvar::{CondvarCall, OpenCall, Outside};
-use parking_lot_protocol::Act;
 use std::alloc::Allocator;
 
-/// Whether an act enters a section.
-fn is_entry(act: Act) -> bool
-    ensures { result ≡ is_entry act }
-{
-    match act {
-        Act::Enter(_) => true,
-        _ => false,
-    }
-}
-
-/// Whether a core's next act at a lock enters a section.
-fn core_enters(core: Core) -> bool
-    ensures { result ≡ core_enters core }
-{
-    match core {
-        Core::Mutex(core) => is_entry(core.act()),
-        Core::Rw(core) => is_entry(core.act()),
-        Core::Upgrade(core) => is_entry(core.act()),
-        Core::Late(phase) => match phase {
-            LatePhase::Expires => true,
-            LatePhase::Quits | LatePhase::Masks | LatePhase::Leaves | LatePhase::GivesUp => false,
-            LatePhase::WasTaken(_, _) => false,
-        },
-        Core::LateRw(phase) => match phase {
-            LateRwPhase::Expires(_) => true,
-            _ => false,
-        },
-    }
-}
-
 impl<A: Allocator> Machines<A> {
-    /// Whether a number's next act at a lock enters a section.
-    pub(crate) fn enters_at_lock(&self, number: usize) -> bool
-        ensures { result ≡ enters_at_lock self.now number }
-    {
-        match self.rows.call(number) {
-            Some(call) => core_enters(call.core),
-            None => false,
-        }
-    }
-
     /// Whether a number can make its step at a lock.
     fn row_goes(&self, number: usize) -> bool
         ensures { result ≡ row_goes self.now number }
     {
-        self.rows.can_move(number) && !(self.enters_at_lock(number) && self.is_open_at_variables())
+        self.rows.can_move(number) && !self.keeps_out(self.enters_at_lock(number))
     }
 
     /// Whether a thread can make its own step at a variable.
     fn var_goes(&self, thread: usize, variable: usize, call: &OpenCall) -> bool
-        ensures { result ≡ var_goes self.now thread call.now (var_at self.now variable) }
+        ensures { result ≡ var_goes self.now variable thread call.now (var_at self.now variable) }
     {
         match self.vars.get(variable) {
             Some(Some(machine)) => machine.can_step(thread)
-                && !(call.enters() && (self.is_open_at_locks() || self.is_open_at_variables())),
+                && !(self.shuts_out(self.enters_var(variable, call))
+                    || self.shuts_out(self.enters_mutex(call))),
             _ => false,
         }
     }

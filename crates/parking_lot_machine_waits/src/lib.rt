@@ -2,6 +2,7 @@
 #![tactic(auto)]
 
 mod allowed;
+mod buckets;
 mod ended;
 pub mod laws;
 mod machines;

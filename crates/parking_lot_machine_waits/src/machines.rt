@@ -1,14 +1,10 @@
 //! The machines of the locks and of the condition variables, and who is in a call where.
-ghost use Rattle.std.specs.Prelude.{◌≡◌, ◌<◌, length, slice_get, true};
-ghost use Rattle.parking_lot_core_model.specs.Buckets.{any_open};
-ghost use Rattle.parking_lot_core_model.specs.Machine.{machine};
-ghost use Rattle.parking_lot_machine.specs.Rows.{state};
+ghost use Rattle.std.specs.Prelude.{◌≡◌, ◌<◌, length};
 ghost use Rattle.parking_lot_machine_waits.specs.Joint.{asking_number, back_number, busy_number, call_at, front_number};
-ghost use Rattle.parking_lot_machine_waits.specs.Joint.{has_by_second, is_entered, is_idle, is_open_at_locks};
-ghost use Rattle.parking_lot_machine_waits.specs.Joint.{is_open_at_variables, is_var, number, seat_at};
+ghost use Rattle.parking_lot_machine_waits.specs.Joint.{has_by_second, is_idle, is_var, number};
+ghost use Rattle.parking_lot_machine_waits.specs.Joint.{seat_at};
 
 use crate::seat::{NOWHERE, Seat};
-use parking_lot_core_model::Lot;
 use parking_lot_machine::{Hold, RowMachine};
 use parking_lot_machine_sides::condvar::{CondvarMachine, OpenCall};
 use std::alloc::{Allocator, Global};
@@ -144,41 +140,5 @@ impl<A: Allocator> Machines<A> {
         ensures { result ≡ is_idle self.now thread }
     {
         self.rows.call(thread).is_none() && self.rows.call(self.number(thread, true)).is_none()
-    }
-
-    /// Whether a section of a condition variable is open.
-    pub(crate) fn is_open_at_variables(&self) -> bool
-        ensures { result ≡ is_open_at_variables self.now }
-    {
-        self.vars.iter().any(|machine| is_entered(machine))
-    }
-
-    /// Whether a section of a lock is open.
-    pub(crate) fn is_open_at_locks(&self) -> bool
-        ensures { result ≡ is_open_at_locks self.now }
-    {
-        is_any_entered(self.rows.lot())
-    }
-}
-
-/// Whether a section is open in one of a lot's buckets.
-fn is_any_entered<A: Allocator>(lot: &Lot<A>) -> bool
-    ensures { result ≡ any_open (machine lot.now).sections (machine lot.now).buckets }
-{
-    for key in 0..lot.buckets() {
-        if lot.is_entered(key) {
-            return true;
-        }
-    }
-    false
-}
-
-/// Whether a section is open at that place, if there is a variable.
-fn is_entered<A: Allocator>(machine: &Option<CondvarMachine<A>>) -> bool
-    ensures { result ≡ is_entered machine.now }
-{
-    match machine {
-        Some(machine) => machine.inside().is_some(),
-        None => false,
     }
 }

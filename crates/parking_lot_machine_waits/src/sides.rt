@@ -1,8 +1,8 @@
 //! What the machine is to another one beside it.
 ghost use Rattle.std.specs.Prelude.{◌≡◌, ◌<◌, length, Some};
 ghost use Rattle.parking_lot_machine_waits.specs.Joint.{seat_at};
-ghost use Rattle.parking_lot_machine_waits.specs.JointSides.{call_owes, enters, enters_as, is_busy, is_indebted};
-ghost use Rattle.parking_lot_machine_waits.specs.JointSides.{is_open, lock_call, notice_owes, owes_at};
+ghost use Rattle.parking_lot_machine_waits.specs.JointSides.{call_owes, enters, enters_as, enters_beside, is_busy};
+ghost use Rattle.parking_lot_machine_waits.specs.JointSides.{is_indebted, lock_call, notice_owes, owes_at};
 ghost use Rattle.parking_lot_machine_sides.specs.Condvar.Turns.{wait_is_inside};
 
 use crate::machines::Machines;
@@ -20,41 +20,53 @@ impl<A: Allocator> Machines<A> {
         thread < self.threads() && !self.is_free(thread)
     }
 
-    /// Whether the next step of a thread in that call at a variable enters a section.
-    fn turn_enters(&self, thread: usize, call: &OpenCall) -> bool
+    /// The bucket that the next step of a thread in that call at a variable enters.
+    fn turn_enters(&self, thread: usize, variable: usize, call: &OpenCall) -> Option<usize>
         requires low { thread < length self.now.seats }
-        ensures { result ≡ enters_as (Some call.now) self.now thread }
+        ensures { result ≡ enters_as (Some call.now) self.now variable thread }
     {
         match turn_of(call) {
-            Turn::Acts => call.enters(),
+            Turn::Acts => self.enters_var(variable, call),
             Turn::Unlocks => self.enters_at_lock(self.front_number(thread)),
             Turn::Follows | Turn::Locks => self.enters_at_lock(self.back_number(thread)),
-            Turn::Sleeps | Turn::GivesUp | Turn::LocksAgain => false,
-            Turn::ComesBack | Turn::Moves | Turn::Hears => false,
+            Turn::Sleeps | Turn::GivesUp | Turn::LocksAgain => None,
+            Turn::ComesBack | Turn::Moves | Turn::Hears => None,
         }
     }
 
-    /// Whether a thread's next step enters a section, of a lock or a variable.
-    pub fn enters(&self, thread: usize) -> bool
+    /// The bucket that a thread's next step enters, where it enters a section, of a lock or a variable.
+    pub fn enters(&self, thread: usize) -> Option<usize>
         ensures { result ≡ enters self.now thread }
     {
         if thread >= self.threads() {
-            return false;
+            return None;
         }
         match self.seat(thread).at {
             None => self.enters_at_lock(self.busy_number(thread)),
             Some(variable) => match self.call_at(variable, thread) {
-                Some(call) => self.turn_enters(thread, &call),
-                None => false,
+                Some(call) => self.turn_enters(thread, variable, &call),
+                None => None,
             },
         }
     }
 
-    /// Whether a section is open, of a lock or a variable.
-    pub fn is_open(&self) -> bool
-        ensures { result ≡ is_open self.now }
+    /// The bucket of the mutex, which a notification enters with it.
+    pub fn enters_beside(&self, thread: usize) -> Option<usize>
+        ensures { result ≡ enters_beside self.now thread }
     {
-        self.is_open_at_locks() || self.is_open_at_variables()
+        if thread >= self.threads() {
+            return None;
+        }
+        match self.seat(thread).at {
+            None => None,
+            Some(variable) => match self.call_at(variable, thread) {
+                Some(call) => match turn_of(&call) {
+                    Turn::Acts => self.enters_mutex(&call),
+                    _ => None,
+                },
+                None => None,
+            },
+        }
     }
 
     /// The call that a thread is in at a lock.

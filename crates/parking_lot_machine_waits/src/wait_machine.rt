@@ -4,12 +4,12 @@ ghost use Rattle.std.specs.Prelude.{IfOk};
 ghost use Rattle.parking_lot_core_model.specs.declared.fault.SizeFault.TheVariants.{BadSize, NoMemory};
 ghost use Rattle.parking_lot_machine.specs.Machines.{at_rest};
 ghost use Rattle.parking_lot_machine.specs.Rows.{state};
-ghost use Rattle.parking_lot_machine_waits.specs.Joint.{call_at, is_var, mode_at, nowhere, seat_at, thread_of, var_at};
-ghost use Rattle.parking_lot_machine_waits.specs.Joint.{waiters_of, word_at};
+ghost use Rattle.parking_lot_machine_waits.specs.Joint.{buckets, call_at, is_shut, is_var, mode_at, nowhere, seat_at};
+ghost use Rattle.parking_lot_machine_waits.specs.Joint.{thread_of, var_at, waiters_of, word_at};
 ghost use Rattle.parking_lot_machine_waits.specs.JointMoves.{may_ask, may_call_at, may_expire, may_go};
 ghost use Rattle.parking_lot_machine_waits.specs.JointLaws.{PartsFit};
 ghost use Rattle.parking_lot_machine_waits.specs.JointProgress.{GiversAreOut};
-ghost use Rattle.parking_lot_machine_waits.specs.JointSides.{enters, is_busy, is_indebted, is_open, lock_call};
+ghost use Rattle.parking_lot_machine_waits.specs.JointSides.{enters, enters_beside, is_busy, is_indebted, lock_call};
 ghost use Rattle.parking_lot_machine_waits.specs.JointSides.{queue_at};
 ghost use Rattle.parking_lot_machine_waits.specs.JointSteps.{IsAsked, IsCalled, IsGone, IsLate, var_of};
 ghost use Rattle.parking_lot_machine_waits.specs.Whole.{IsWhole};
@@ -138,18 +138,32 @@ impl<A: Allocator> WaitMachine<A> {
         self.machines.is_busy(thread)
     }
 
-    /// Whether a thread's next step enters a section, of a lock or a variable.
-    pub fn enters(&self, thread: usize) -> bool
+    /// The bucket that a thread's next step enters, where it enters a section, of a lock or a variable.
+    pub fn enters(&self, thread: usize) -> Option<usize>
         ensures { result ≡ enters self.now thread }
     {
         self.machines.enters(thread)
     }
 
-    /// Whether a section is open, of a lock or a variable.
-    pub fn is_open(&self) -> bool
-        ensures { result ≡ is_open self.now }
+    /// The bucket of the mutex, which a notification enters with it.
+    pub fn enters_beside(&self, thread: usize) -> Option<usize>
+        ensures { result ≡ enters_beside self.now thread }
     {
-        self.machines.is_open()
+        self.machines.enters_beside(thread)
+    }
+
+    /// How many buckets of keys there are.
+    pub fn buckets(&self) -> usize
+        ensures { result ≡ buckets self.now }
+    {
+        self.machines.buckets()
+    }
+
+    /// Whether a section is open in a bucket, of a lock or a variable.
+    pub fn is_shut(&self, bucket: usize) -> bool
+        ensures { result ≡ is_shut self.now bucket }
+    {
+        self.machines.is_shut(bucket)
     }
 
     /// The call that a thread is in at a lock.

@@ -114,7 +114,7 @@ module _ (t : ℕ) (fits_call : Bool → LockAnswer → Bool) where
 
   module _ (w x : Shown) (fit : IsFit w) (late : Bool) (u : ℕ) (ne : t ≢ u) where
     -- another's call at a once is its own
-    once_out : (b : Bool) → of_onces.Kept b w.onces x.onces → onces.call_at w.onces t ≡ None
+    once_out : (b : Option ℕ) → of_onces.Kept b w.onces x.onces → onces.call_at w.onces t ≡ None
         → onces.call_at x.onces t ≡ None
     once_out b kept none = go (onces.call_at x.onces t) refl
       where

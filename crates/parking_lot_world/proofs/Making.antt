@@ -1,9 +1,11 @@
 -- A new world is whole.
-use Rattle.std.proofs.Common.{◌≡◌, ℕ, zero, suc, ◌*◌, ◌&&◌, not, nat_lt, inr, Bool, true, false, is_some, is_none, map}
+use Rattle.std.proofs.Common.{◌≡◌, ℕ, zero, suc, ◌*◌, arith, ◌&&◌, not, nat_lt, inr, Bool, true, false, is_some}
+use Rattle.std.proofs.Common.{is_none, map}
 use Rattle.std.proofs.Common.{length, List, [], ◌∷◌, replicate, Option, None, slice_get, refl, sym, ap, ◌∙◌}
 use Rattle.std.specs.Option.{option_and_then, option_map_or, unwrap_or}
 use Rattle.std.proofs.lemmas.List.{length-replicate}
 use Rattle.std.proofs.lemmas.Option.{none-some}
+use Rattle.parking_lot_core_model.specs.Buckets.{buckets_for, slot, threads_with}
 use Rattle.parking_lot_machine_sides.specs.Condvar.Machines.{State as Var}
 use Rattle.parking_lot_machine_sides.specs.Once.OnceActs as once
 use Rattle.parking_lot_machine_sides.specs.Once.Onces.{Onces}
@@ -47,6 +49,9 @@ none_of false b c d e f g = absurd cc
 none_of true false c d e f g = absurd cc
 none_of true true false d e f g = absurd cc
 
+same_threads : (n : ℕ) → n ≡ threads_with true (2 * n)
+same_threads n = omega arith
+
 module _ (w : Shown) (threads : ℕ)
     (rows_new : state w.waits.rows ≡ rows.at_rest true (2 * threads) (map row_kind w.kinds))
     (vars : w.waits.vars ≡ map (var_of threads) (map is_variable w.kinds))
@@ -75,5 +80,7 @@ module _ (w : Shown) (threads : ℕ)
     at_locks = λ k c here. absurd (none-some c (sym (no_call k) ∙ here));
     at_onces = λ t c is. absurd
         (none-some c (sym (ap (λ (s : Onces). onces.call_at s t) onces_new ∙ nobody threads t) ∙ is));
-    sections = inr (ap (λ (s : Onces). s.inside) onces_new);
+    buckets = ap (λ (s : Onces). length s.inside) onces_new ∙ length-replicate (buckets_for threads) None
+        ∙ ap buckets_for (same_threads threads) ∙ sym (ap (λ (s : State). s.lot.buckets) rows_new);
+    sections = λ b. inr (ap (λ (s : Onces). slot s.inside b) onces_new ∙ nobody (buckets_for threads) b);
   }

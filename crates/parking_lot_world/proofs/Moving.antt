@@ -1,8 +1,9 @@
 -- In a world somebody can move.
 use Rattle.std.proofs.Common.{◌≡◌, ℕ, inl, inr, Bool, true, false, cond, is_some, is_none, length, Option, Some, None}
 use Rattle.std.proofs.Common.{refl, sym, ap, ◌∙◌}
-use Rattle.std.specs.Option.{option_map_or}
+use Rattle.std.specs.Option.{option_and_then, option_map_or}
 use Rattle.std.proofs.lemmas.Bool.{ltb-true}
+use Rattle.parking_lot_core_model.specs.Buckets.{slot}
 use Rattle.parking_lot_protocol_waits.specs.declared.once.once_phase.OncePhase.{OncePhase}
 use Rattle.parking_lot_protocol_waits.specs.Once.OnceTable as of_once
 use Rattle.parking_lot_machine_sides.specs.Once.OnceActs as once
@@ -19,8 +20,10 @@ use Rattle.parking_lot_machine_waits.specs.JointMoves as joint
 use Rattle.parking_lot_machine_waits.specs.JointProgress.{GiversAreOut, SomebodyInsideGoes}
 use Rattle.parking_lot_machine_waits.specs.JointProgress as wait_laws
 use Rattle.parking_lot_machine_waits.specs.Whole as waits
+use Rattle.parking_lot_machine_waits.proofs.Opened.{shut_is_open}
 use Rattle.parking_lot_world.specs.WorldLaws.{Moves, SomebodyCanMove}
-use Rattle.parking_lot_world.specs.Worlds.{IsWhole, Shown, goes, is_entry, is_in_once, may_go, once_enters, once_side}
+use Rattle.parking_lot_world.specs.Worlds.{IsWhole, Shown, act_enters, goes, is_in_once, may_go, once_enters}
+use Rattle.parking_lot_world.specs.Worlds.{once_side}
 use Rattle.parking_lot_world.specs.Worlds.{wait_side}
 use Rattle.parking_lot_world.proofs.Busy.{goes_busy}
 use Rattle.parking_lot_world.proofs.Sides.{IsOrderly, somebody_goes}
@@ -40,16 +43,17 @@ is_work Act.Spin = true
 is_work (Act.Section next) = true
 is_work (Act.Done answer) = true
 
-once_goes : (a : Act) (free : Bool) → is_work a ≡ true → (once.is_possible free a ≡ true) × (is_entry a ≡ false)
-once_goes Act.Sleep free e = absurd cc
-once_goes (Act.Enter key) free e = absurd cc
-once_goes Act.Load free e = (refl, refl)
-once_goes (Act.Exchange from to) free e = (refl, refl)
-once_goes (Act.Add by) free e = (refl, refl)
-once_goes (Act.FetchAnd keep) free e = (refl, refl)
-once_goes Act.Spin free e = (refl, refl)
-once_goes (Act.Section next) free e = (refl, refl)
-once_goes (Act.Done answer) free e = (refl, refl)
+once_goes : (s : Onces) (c : OpenCall) (a : Act) (free : Bool) → is_work a ≡ true
+    → (once.is_possible free a ≡ true) × (act_enters s c a ≡ None)
+once_goes s c Act.Sleep free e = absurd cc
+once_goes s c (Act.Enter key) free e = absurd cc
+once_goes s c Act.Load free e = (refl, refl)
+once_goes s c (Act.Exchange from to) free e = (refl, refl)
+once_goes s c (Act.Add by) free e = (refl, refl)
+once_goes s c (Act.FetchAnd keep) free e = (refl, refl)
+once_goes s c Act.Spin free e = (refl, refl)
+once_goes s c (Act.Section next) free e = (refl, refl)
+once_goes s c (Act.Done answer) free e = (refl, refl)
 
 -- whoever is in a section works
 once_works : (p : OncePhase) → is_in_section p ≡ true → is_work (of_once.act_of p) ≡ true
@@ -69,25 +73,29 @@ some_call f (Some c) e = refl
 module _ (s : Onces) (h : Fits s) where
   pub onces_orderly : IsOrderly (once_side s)
   onces_orderly = record {
-    busy = λ t moves. some_call (λ (c : OpenCall). once.is_possible (is_none s.inside) (of_once.act_of c.core.phase))
+    busy = λ t moves. some_call
+        (λ (c : OpenCall). once.is_possible (is_none (onces.inside_at s c.once)) (of_once.act_of c.core.phase))
         (onces.call_at s t) moves;
-    inside = λ some. go s.inside refl some;
+    inside = λ b some. go b (slot s.inside b) refl some;
   }
     where
       shut : false ≡ true → ⊥
       shut e = cc
 
-      go : (o : Option ℕ) → s.inside ≡ o → is_some s.inside ≡ true → (u : ℕ) × (once.can_move s u ≡ true)
-          × (once_enters s u ≡ false)
-      go None is some = absurd (shut (sym (ap is_some is) ∙ some))
-      go (Some u) is some =
-          let d = h.inside u is in
-          let works = once_works d.0.core.phase ((h.seated u d.0 d.1).section ∙ is_one s.inside u is) in
-          let w = once_goes (of_once.act_of d.0.core.phase) (is_none s.inside) works in (
+      go : (b : ℕ) (o : Option ℕ) → slot s.inside b ≡ o → is_some (slot s.inside b) ≡ true → (u : ℕ)
+          × (once.can_move s u ≡ true) × (once_enters s u ≡ None) × ((once_side s).beside u ≡ None)
+      go b None is some = absurd (shut (sym (ap is_some is) ∙ some))
+      go b (Some u) is some =
+          let d = h.inside b u is in
+          let works = once_works d.0.core.phase
+          ((h.seated u d.0 d.1).section ∙ is_one (onces.inside_at s d.0.once) u (ap (slot s.inside) d.2 ∙ is)) in
+          let w = once_goes s d.0 (of_once.act_of d.0.core.phase) (is_none (onces.inside_at s d.0.once)) works in (
             u,
-            ap (λ o. option_map_or (λ (c : OpenCall). once.is_possible (is_none s.inside) (of_once.act_of c.core.phase))
+            ap (λ o. option_map_or
+                (λ (c : OpenCall). once.is_possible (is_none (onces.inside_at s c.once)) (of_once.act_of c.core.phase))
                 o false) d.1 ∙ w.0,
-            ap (λ o. option_map_or (λ (c : OpenCall). is_entry (of_once.act_of c.core.phase)) o false) d.1 ∙ w.1,
+            ap (λ o. option_and_then (λ (c : OpenCall). act_enters s c (of_once.act_of c.core.phase)) o) d.1 ∙ w.1,
+            refl,
           )
 
 -- BOTH
@@ -97,7 +105,7 @@ module _ (inside : SomebodyInsideGoes) (w : Shown) (whole : IsWhole w) (tied : w
   waits_orderly : IsOrderly (wait_side w.waits)
   waits_orderly = record {
     busy = λ t moves. goes_busy w.waits t moves;
-    inside = λ some. inside w.waits tied parts givers some;
+    inside = λ b some. inside w.waits tied parts givers (shut_is_open w.waits parts b some);
   }
 
   may : (t : ℕ) (b : Bool) → is_in_once w t ≡ b → cond b (goes (once_side w.onces) (wait_side w.waits) t)

@@ -1,10 +1,12 @@
 -- A world stays whole, whatever step is made.
-use Rattle.std.proofs.Common.{◌≡◌, ◌⊎◌, ℕ, inl, inr, Bool, true, false, not, cond, ◌&&◌, is_some, is_none, List, map}
+use Rattle.std.proofs.Common.{◌≡◌, ◌⊎◌, ℕ, inl, inr, Bool, true, false, not, cond, ◌&&◌, ◌||◌, is_some, is_none, List}
+use Rattle.std.proofs.Common.{map}
 use Rattle.std.proofs.Common.{length, Option, Some, None, slice_get, slice_set, refl, sym, ap, ◌∙◌, subst}
-use Rattle.std.specs.Option.{option_map, option_map_or}
+use Rattle.std.specs.Option.{option_and_then, option_map, option_map_or}
 use Rattle.std.proofs.lemmas.Bool.{cases_eq}
 use Rattle.std.proofs.lemmas.List.{length-set}
 use Rattle.std.proofs.lemmas.Option.{none-some, same_Some, slice_get-map}
+use Rattle.parking_lot_core_model.specs.Buckets.{slot}
 use Rattle.parking_lot_machine_sides.specs.declared.once.calls.OnceCall.{OnceCall}
 use Rattle.parking_lot_machine_sides.specs.Once.OnceActs as once
 use Rattle.parking_lot_machine_sides.specs.declared.once.open_call.OpenCall.{OpenCall}
@@ -12,11 +14,11 @@ use Rattle.parking_lot_machine_sides.specs.Once.Onces.{Onces}
 use Rattle.parking_lot_machine_sides.specs.Once.Onces as onces
 use Rattle.parking_lot_protocol_waits.specs.Once.OnceTable.{act_of}
 use Rattle.parking_lot_machine_sides.specs.declared.condvar.calls.CondvarCall.{CondvarCall}
-use Rattle.parking_lot_machine_waits.specs.Joint.{Joint, is_var}
+use Rattle.parking_lot_machine_waits.specs.Joint.{Joint, buckets, is_shut, is_that, is_var}
 use Rattle.parking_lot_machine_waits.specs.JointLaws.{PartsFit}
 use Rattle.parking_lot_machine_waits.specs.JointMoves as joint
-use Rattle.parking_lot_machine_waits.specs.JointSides.{enters, is_busy, is_open}
-use Rattle.parking_lot_machine_waits.specs.JointStays.{Leaves, WasThere}
+use Rattle.parking_lot_machine_waits.specs.JointSides.{enters, enters_beside, enters_bucket, is_busy}
+use Rattle.parking_lot_machine_waits.specs.JointStays.{Leaves, WasThere, enters_none}
 use Rattle.parking_lot_machine_waits.specs.Whole as waits
 use Rattle.parking_lot_machine_waits.proofs.LeavingTurns.{steps_leave}
 use Rattle.parking_lot_machine_calls.specs.declared.calls.LockCall.{LockCall as RowCall}
@@ -28,12 +30,13 @@ use Rattle.parking_lot_world.specs.declared.calls.LockAnswer.{LockAnswer}
 use Rattle.parking_lot_world.specs.declared.calls.LockKind.{LockKind}
 use Rattle.parking_lot_world.specs.declared.calls.LockKind.TheVariants as kind
 use Rattle.parking_lot_world.specs.WorldCalls.{is_once, is_variable, row_kind}
-use Rattle.parking_lot_world.specs.Worlds.{IsAsked, IsGone, IsLate, IsWhole, Shown, goes, is_entry, is_in_once}
+use Rattle.parking_lot_world.specs.Worlds.{IsAsked, IsGone, IsLate, IsWhole, Shown, act_enters, goes, is_in_once}
 use Rattle.parking_lot_world.specs.Worlds.{is_once_at, is_variable_at, may_ask, may_go, noted, once_side, rows_of}
-use Rattle.parking_lot_world.specs.Worlds.{wait_side}
+use Rattle.parking_lot_world.specs.Worlds.{shuts_out, wait_side}
 use Rattle.parking_lot_world.proofs.Coming.{Was, set_cases}
 use Rattle.parking_lot_world.proofs.OncesKept as of_onces
 use Rattle.parking_lot_world.proofs.OncesKept.{once_of}
+use Rattle.parking_lot_world.proofs.Sides.{not_shut}
 
 -- PARTS
 
@@ -52,22 +55,6 @@ not_true false e = refl
 pub both_ways : {X : Type 0} (b : Bool) → b ≡ true → b ≡ false → X
 both_ways true e f = absurd cc
 both_ways false e f = absurd cc
-
--- where one side may enter only with the other closed, one of both is closed: a step in the first machine, and one in
--- the other
-first_closed : {Y : Type 0} (enters : Bool) (a b : Bool) (q : Option Y) → (enters ≡ false → a ≡ false → b ≡ false)
-    → not (enters && is_some q) ≡ true → (a ≡ false) ⊎ (q ≡ None) → (b ≡ false) ⊎ (q ≡ None)
-first_closed enters a b None closed may one = inr refl
-first_closed true a b (Some y) closed may one = absurd cc
-first_closed false a b (Some y) closed may (inl free) = inl (closed refl free)
-first_closed false a b (Some y) closed may (inr shut) = absurd (none-some y (sym shut))
-
-other_closed : {Y : Type 0} (enters : Bool) (a : Bool) (o p : Option Y) → (enters ≡ false → o ≡ None → p ≡ None)
-    → not (enters && a) ≡ true → (a ≡ false) ⊎ (o ≡ None) → (a ≡ false) ⊎ (p ≡ None)
-other_closed enters false o p closed may one = inl refl
-other_closed true true o p closed may one = absurd cc
-other_closed false true o p closed may (inl free) = absurd cc
-other_closed false true o p closed may (inr shut) = inr (closed refl shut)
 
 noted_length : (t : ℕ) (o : Option LockAnswer) (answers : List (Option LockAnswer))
     → length (noted t o answers) ≡ length answers
@@ -95,7 +82,7 @@ mutex_no_once w h i is =
 -- WHAT STAYS OF A WORLD WHERE ONE MACHINE MAKES A STEP
 
 abbrev OneIsClosed : Shown → Type 0
-OneIsClosed v = (is_open v.waits ≡ false) ⊎ (v.onces.inside ≡ None)
+OneIsClosed v = (b : ℕ) → (is_shut v.waits b ≡ false) ⊎ (slot v.onces.inside b ≡ None)
 
 module _ (w v : Shown) (h : IsWhole w) (kinds : v.kinds ≡ w.kinds) (answers : length v.answers ≡ length w.answers) where
   at : (i : ℕ) → is_once_at v i ≡ is_once_at w i
@@ -111,7 +98,7 @@ module _ (w v : Shown) (h : IsWhole w) (kinds : v.kinds ≡ w.kinds) (answers : 
   was_no_once asked free i (inr (inl mutex)) = mutex_no_once w h i mutex
   was_no_once asked free i (inr (inr this)) = free i this
 
-  waits_moved : (t : ℕ) (e : Bool) (asked : Option ℕ) → Leaves t e asked w.waits v.waits → v.onces ≡ w.onces
+  waits_moved : (t : ℕ) (e : ℕ → Bool) (asked : Option ℕ) → Leaves t e asked w.waits v.waits → v.onces ≡ w.onces
       → onces.call_at w.onces t ≡ None → ((i : ℕ) → asked ≡ Some i → is_once_at w i ≡ false) → OneIsClosed v → IsWhole v
   waits_moved t e asked x same out free one = record {
     wait_threads = x.threads ∙ h.wait_threads ∙ sym answers;
@@ -122,6 +109,7 @@ module _ (w v : Shown) (h : IsWhole w) (kinds : v.kinds ≡ w.kinds) (answers : 
     apart = λ u busy. ap (λ (o : Onces). onces.call_at o u) same ∙ still_out u busy;
     at_locks = λ k c here. at c.lock ∙ was_no_once asked free c.lock (x.calls k c here);
     at_onces = λ u c is. at c.once ∙ h.at_onces u c (ap (λ (o : Onces). onces.call_at o u) (sym same) ∙ is);
+    buckets = ap (λ (o : Onces). length o.inside) same ∙ h.buckets ∙ sym x.same_buckets;
     sections = one;
   }
     where
@@ -132,10 +120,10 @@ module _ (w v : Shown) (h : IsWhole w) (kinds : v.kinds ≡ w.kinds) (answers : 
       ]
 
   onces_moved : v.waits ≡ w.waits → length v.onces.calls ≡ length w.onces.calls
-      → length v.onces.words ≡ length w.onces.words
+      → length v.onces.words ≡ length w.onces.words → length v.onces.inside ≡ length w.onces.inside
       → ((t : ℕ) (d : OpenCall) → onces.call_at v.onces t ≡ Some d → (is_once_at w d.once ≡ true)
       × (is_busy w.waits t ≡ false)) → OneIsClosed v → IsWhole v
-  onces_moved same count words from one = record {
+  onces_moved same count words many from one = record {
     wait_threads = ap (λ (j : Joint). length j.seats) same ∙ h.wait_threads ∙ sym answers;
     once_threads = count ∙ h.once_threads ∙ sym answers;
     row_kinds = ap (λ (j : Joint). j.rows.kinds) same ∙ h.row_kinds ∙ ap (map row_kind) (sym kinds);
@@ -145,6 +133,7 @@ module _ (w v : Shown) (h : IsWhole w) (kinds : v.kinds ≡ w.kinds) (answers : 
     at_locks = λ k c here. at c.lock
         ∙ h.at_locks k c (ap (λ (j : Joint). call_at (rows_of (record w { waits = j })) k) (sym same) ∙ here);
     at_onces = λ t d is. at d.once ∙ (from t d is).0;
+    buckets = many ∙ h.buckets ∙ sym (ap (λ (j : Joint). buckets j) same);
     sections = one;
   }
     where
@@ -161,21 +150,40 @@ module _ (w v : Shown) (h : IsWhole w) (kinds : v.kinds ≡ w.kinds) (answers : 
       go false e = e
       go true e = absurd (none-some d (sym (h.apart t e) ∙ is))
 
-  onces_kept : (b : Bool) → of_onces.Kept b w.onces v.onces → v.waits ≡ w.waits → OneIsClosed v → IsWhole v
-  onces_kept b k same one = onces_moved same k.calls.count k.count (λ t d is. from t d (k.calls.from t d is)) one
+  onces_kept : (b : Option ℕ) → of_onces.Kept b w.onces v.onces → v.waits ≡ w.waits → OneIsClosed v → IsWhole v
+  onces_kept b k same one =
+      onces_moved same k.calls.count k.count k.buckets (λ t d is. from t d (k.calls.from t d is)) one
     where
       from : (t : ℕ) (d : OpenCall) → Was once_of (onces.call_at w.onces t) d → (is_once_at w d.once ≡ true)
           × (is_busy w.waits t ≡ false)
       from t d c = (ap (is_once_at w) (sym c.there) ∙ h.at_onces t c.call c.is, out_of_waits t c.call c.is)
 
--- both machines are as they were, but for what one has done
-one_closed : (w v : Shown) → v.onces ≡ w.onces → (is_open v.waits ≡ false) ⊎ (w.onces.inside ≡ None) → OneIsClosed v
-one_closed w v same one = subst (λ (o : Onces). (is_open v.waits ≡ false) ⊎ (o.inside ≡ None)) (sym same) one
+-- the onces are as they were, and a section is open in no bucket that isn't entered but where one was
+one_closed : (w v : Shown) → v.onces ≡ w.onces
+    → ((b : ℕ) → (is_shut v.waits b ≡ false) ⊎ (slot w.onces.inside b ≡ None))
+    → OneIsClosed v
+one_closed w v same one b =
+    subst (λ (o : Onces). (is_shut v.waits b ≡ false) ⊎ (slot o.inside b ≡ None)) (sym same) (one b)
 
-closed_still : (w v : Shown) → IsWhole w → (e : Bool) → e ≡ false
-    → (e ≡ false → is_open w.waits ≡ false → is_open v.waits ≡ false) → v.onces ≡ w.onces → OneIsClosed v
-closed_still w v h e out closed same =
-    one_closed w v same (elim h.sections [ inl shut ↦ inl (closed out shut) | inr shut ↦ inr shut ])
+closed_still : (w v : Shown) → IsWhole w
+    → ((b : ℕ) → false ≡ false → is_shut w.waits b ≡ false → is_shut v.waits b ≡ false) → v.onces ≡ w.onces
+    → OneIsClosed v
+closed_still w v h closed same = one_closed w v same
+    (λ b. elim (h.sections b) [ inl shut ↦ inl (closed b refl shut) | inr shut ↦ inr shut ])
+
+-- by which of its buckets it may be kept out
+not_out : (p q : Bool) → not (p || q) ≡ true → (p ≡ false) × (q ≡ false)
+not_out true q e = absurd cc
+not_out false true e = absurd cc
+not_out false false e = (refl, refl)
+
+nobody_in : (o : Option ℕ) → is_some o ≡ false → o ≡ None
+nobody_in None e = refl
+nobody_in (Some t) e = absurd cc
+
+one_of : (p q : Bool) → (p || q) ≡ true → (p ≡ true) ⊎ (q ≡ true)
+one_of true q e = inl refl
+one_of false q e = inr e
 
 -- CALLS THAT BEGIN
 
@@ -199,25 +207,25 @@ module _ (w v : Shown) (h : IsWhole w) (tied : waits.IsWhole w.waits) (parts : P
       let a = both_true _ _ may in
       let b = both_true _ _ a.1 in
       let x = steps_leave.asks t i call w.waits v.waits tied parts b.1 begun in
-      waits_moved w v h kinds as_many t false (Some i) x same (nobody (onces.call_at w.onces t) b.0)
+      waits_moved w v h kinds as_many t enters_none (Some i) x same (nobody (onces.call_at w.onces t) b.0)
       (λ n e. ap (is_once_at w) (sym (same_Some i n e)) ∙ not_true (is_once_at w i) a.0)
-      (closed_still w v h false refl x.closed same)
+      (closed_still w v h x.closed same)
 
   asked_variable : (call : CondvarCall) → may_ask w t i (Asked.OfVariable call) ≡ true
       → IsAsked t i (Asked.OfVariable call) w v → IsWhole v
   asked_variable call may (begun, same) =
       let a = both_true _ _ may in
       let x = steps_leave.calls t i call w.waits v.waits tied parts a.1 begun in
-      waits_moved w v h kinds as_many t false None x same (nobody (onces.call_at w.onces t) a.0)
-      (λ n e. absurd (none-some n e)) (closed_still w v h false refl x.closed same)
+      waits_moved w v h kinds as_many t enters_none None x same (nobody (onces.call_at w.onces t) a.0)
+      (λ n e. absurd (none-some n e)) (closed_still w v h x.closed same)
 
   asked_once : (call : OnceCall) → may_ask w t i (Asked.OfOnce call) ≡ true → IsAsked t i (Asked.OfOnce call) w v
       → IsWhole v
   asked_once call may (begun, same) = onces_moved w v h kinds as_many same
       (ap (λ (s : Onces). length s.calls) begun.became ∙ length-set w.onces.calls t _)
-      (ap (λ (s : Onces). length s.words) begun.became)
-      from (subst (λ (j : Joint). (is_open j ≡ false) ⊎ (v.onces.inside ≡ None)) (sym same)
-      (subst (λ (s : Onces). (is_open w.waits ≡ false) ⊎ (s.inside ≡ None)) (sym begun.became) h.sections))
+      (ap (λ (s : Onces). length s.words) begun.became) (ap (λ (s : Onces). length s.inside) begun.became)
+      from (λ b. subst (λ (j : Joint). (is_shut j b ≡ false) ⊎ (slot v.onces.inside b ≡ None)) (sym same)
+      (subst (λ (s : Onces). (is_shut w.waits b ≡ false) ⊎ (slot s.inside b ≡ None)) (sym begun.became) (h.sections b)))
     where
       allowed : (is_once_at w i ≡ true) × (not (is_busy w.waits t) ≡ true)
       allowed = (let a = both_true _ _ may in let b = both_true _ _ a.1 in (a.0, b.0))
@@ -249,8 +257,7 @@ which_goes w t b there may =
 
 pub waits_go : (w : Shown) (t : ℕ) → is_in_once w t ≡ false → may_go w t ≡ true → joint.may_go w.waits t ≡ true
 waits_go w t there may =
-    (both_true (joint.may_go w.waits t) (not (enters w.waits t && is_some w.onces.inside))
-    (which_goes w t false there may)).0
+    (both_true (joint.may_go w.waits t) _ (which_goes w t false there may)).0
 
 no_call : (o : Option OpenCall) → is_some o ≡ false → o ≡ None
 no_call None e = refl
@@ -260,28 +267,41 @@ module _ (w v : Shown) (h : IsWhole w) (tied : waits.IsWhole w.waits) (parts : P
     (kinds : v.kinds ≡ w.kinds) where
   pub gone_whole : (fair b : Bool) → is_in_once w t ≡ b → may_go w t ≡ true → IsGone b t fair w v → IsWhole v
   gone_whole fair false there may (end, gone, same, answers) =
-      let can = both_true (joint.may_go w.waits t) (not (enters w.waits t && is_some w.onces.inside))
-      (which_goes w t false there may) in
+      let can = both_true (joint.may_go w.waits t) _ (which_goes w t false there may) in
       let x = steps_leave.steps t fair end w.waits v.waits tied parts can.0 gone in
-      waits_moved w v h kinds (ap length answers ∙ noted_length t _ w.answers) t (enters w.waits t) None x same
+      waits_moved w v h kinds (ap length answers ∙ noted_length t _ w.answers) t (enters_bucket w.waits t) None x same
       (no_call (onces.call_at w.onces t) there) (λ n e. absurd (none-some n e))
-      (one_closed w v same
-      (first_closed (enters w.waits t) (is_open w.waits) (is_open v.waits) w.onces.inside x.closed can.1
-      h.sections))
+      (one_closed w v same (λ b. by x b (enters_bucket w.waits t b) refl (not_out _ _ can.1)))
+    where
+      by : Leaves t (enters_bucket w.waits t) None w.waits v.waits → (b : ℕ) (e : Bool) → enters_bucket w.waits t b ≡ e
+          → (shuts_out (once_side w.onces) (enters_beside w.waits t) ≡ false)
+          × (shuts_out (once_side w.onces) (enters w.waits t) ≡ false)
+          → (is_shut v.waits b ≡ false) ⊎ (slot w.onces.inside b ≡ None)
+      by x b false e out = elim (h.sections b) [ inl free ↦ inl (x.closed b e free) | inr shut ↦ inr shut ]
+      by x b true e out = inr (nobody_in (slot w.onces.inside b)
+          (elim (one_of (is_that (enters_beside w.waits t) b) (is_that (enters w.waits t) b) e) [
+            | inl that ↦ not_shut (once_side w.onces) (enters_beside w.waits t) b out.0 that
+            | inr that ↦ not_shut (once_side w.onces) (enters w.waits t) b out.1 that
+          ]))
   gone_whole fair true there may (reply, x, same, answers) =
       let kept = of_onces.stepped_kept w.onces v.onces t reply x in
       let free = (both_true _ _ (which_goes w t true there may)).1 in
-      let shut : not (is_entry (act_of x.call.core.phase) && is_open w.waits) ≡ true =
-      sym (ap (λ o. not (option_map_or (λ (c : OpenCall). is_entry (act_of c.core.phase)) o false
-      && is_open w.waits)) x.here) ∙ free in
-      let one = other_closed (is_entry (act_of x.call.core.phase)) (is_open w.waits) w.onces.inside v.onces.inside
-      kept.closed shut h.sections in
+      let shut : shuts_out (wait_side w.waits) (act_enters w.onces x.call (act_of x.call.core.phase)) ≡ false =
+      (not_out false _ (sym (ap (λ o. not (shuts_out (wait_side w.waits)
+      (option_and_then (λ (c : OpenCall). act_enters w.onces c (act_of c.core.phase)) o))) x.here) ∙ free)).1 in
       onces_kept w v h kinds (ap length answers ∙ noted_length t _ w.answers) _ kept same
-      (subst (λ (j : Joint). (is_open j ≡ false) ⊎ (v.onces.inside ≡ None)) (sym same) one)
+      (λ b. subst (λ (j : Joint). (is_shut j b ≡ false) ⊎ (slot v.onces.inside b ≡ None)) (sym same)
+      (by (act_enters w.onces x.call (act_of x.call.core.phase)) b kept
+      (is_that (act_enters w.onces x.call (act_of x.call.core.phase)) b) refl shut))
+    where
+      by : (o : Option ℕ) (b : ℕ) → of_onces.Kept o w.onces v.onces → (e : Bool) → is_that o b ≡ e
+          → shuts_out (wait_side w.waits) o ≡ false → (is_shut w.waits b ≡ false) ⊎ (slot v.onces.inside b ≡ None)
+      by o b kept true e out = inl (not_shut (wait_side w.waits) o b out e)
+      by o b kept false e out = elim (h.sections b) [ inl free ↦ inl free | inr shut ↦ inr (kept.closed b e shut) ]
 
   -- One whose deadline may come is in no call at a once.
   pub late_whole : joint.may_expire w.waits t ≡ true → onces.call_at w.onces t ≡ None → IsLate t w v → IsWhole v
   late_whole may out (late, same, answers) =
       let x = steps_leave.deadlines t w.waits v.waits tied parts may late in
-      waits_moved w v h kinds (ap length answers) t false None x same out (λ n e. absurd (none-some n e))
-      (closed_still w v h false refl x.closed same)
+      waits_moved w v h kinds (ap length answers) t enters_none None x same out (λ n e. absurd (none-some n e))
+      (closed_still w v h x.closed same)

@@ -1,9 +1,11 @@
 -- What a world of locks, condition variables and onces consists of, which steps of a schedule it makes, and what is
 -- seen of it.
-use Rattle.std.specs.Prelude.{◌≡◌, ◌⊎◌, ◌++◌, ℕ, zero, suc, ◌/◌, ◌*◌, ◌==◌, Bool, true, false, not, ◌&&◌, ◌||◌, is_some}
+use Rattle.std.specs.Prelude.{◌≡◌, ◌⊎◌, ◌++◌, ℕ, zero, suc, ◌/◌, ◌*◌, ◌==◌, Bool, true, false, not, ◌&&◌, ◌||◌}
+use Rattle.std.specs.Prelude.{is_some}
 use Rattle.std.specs.Prelude.{is_none, nat_lt, if◌then◌else◌, List, [], ◌∷◌, length, map, Option, Some, None, Result}
 use Rattle.std.specs.Prelude.{Ok, Err, slice_get, slice_set}
-use Rattle.std.specs.Option.{option_map, option_map_or}
+use Rattle.std.specs.Option.{option_and_then, option_map, option_map_or}
+use Rattle.parking_lot_core_model.specs.Buckets.{slot}
 use Rattle.parking_lot_protocol.specs.declared.act.Act.{Act}
 use Rattle.parking_lot_protocol.specs.declared.act.Act.TheVariants as act
 use Rattle.parking_lot_protocol_waits.specs.Once.OnceTable.{act_of}
@@ -65,35 +67,47 @@ is_variable_at w i = option_map_or is_variable (slice_get w.kinds i) false
 
 -- THE TWO MACHINES, SIDE BY SIDE
 
--- What one machine is to the other: who is in a call there, who can make a step as far as that machine goes, whose next
--- step enters a section, and whether one is open.
+-- What one machine is to the other: who is in a call there, who can make a step as far as that machine goes, which
+-- bucket its next step enters, and which with it, and in which buckets a section is open.
 pub record Side : Type 0 where
   pub calls : ℕ → Bool
   pub moves : ℕ → Bool
-  pub enters : ℕ → Bool
-  pub is_open : Bool
+  pub enters : ℕ → Option ℕ
+  pub beside : ℕ → Option ℕ
+  pub shuts : ℕ → Bool
 
-abbrev pub is_entry : Act → Bool
-is_entry (act.Enter key) = true
-is_entry other = false
+abbrev pub act_enters : Onces → OpenCall → Act → Option ℕ
+act_enters s c (act.Enter key) = Some (onces.bucket_of s c.once)
+act_enters s c other = None
 
-abbrev pub once_enters : Onces → ℕ → Bool
-once_enters s t = option_map_or (λ c. is_entry (act_of c.core.phase)) (onces.call_at s t) false
+abbrev pub once_enters : Onces → ℕ → Option ℕ
+once_enters s t = option_and_then (λ c. act_enters s c (act_of c.core.phase)) (onces.call_at s t)
 
 abbrev pub wait_side : Joint → Side
-wait_side j = record { calls = is_busy j; moves = joint.may_go j; enters = sides.enters j; is_open = sides.is_open j }
+wait_side j = record {
+  calls = is_busy j;
+  moves = joint.may_go j;
+  enters = sides.enters j;
+  beside = sides.enters_beside j;
+  shuts = joints.is_shut j;
+}
 
 abbrev pub once_side : Onces → Side
 once_side s = record {
   calls = λ t. is_some (onces.call_at s t);
   moves = once.can_move s;
   enters = once_enters s;
-  is_open = is_some s.inside;
+  beside = λ t. None;
+  shuts = λ b. is_some (slot s.inside b);
 }
 
--- It can move in its machine, and enters no section while one is open in the other.
+-- a section of that machine is open in the bucket
+abbrev pub shuts_out : Side → Option ℕ → Bool
+shuts_out b o = option_map_or b.shuts o false
+
+-- It can move in its machine, and enters no bucket in which a section of the other is open.
 abbrev pub goes : Side → Side → ℕ → Bool
-goes a b t = a.moves t && not (a.enters t && b.is_open)
+goes a b t = a.moves t && not (shuts_out b (a.beside t) || shuts_out b (a.enters t))
 
 -- STEPS
 
@@ -187,8 +201,8 @@ is_indebted w t = once_debts.is_in_debt w.onces t || sides.is_indebted w.waits t
 
 -- WHAT HOLDS TOGETHER
 
--- A thread is in a call of one machine at most, at a lock of a kind that is the machine's; and no section of one
--- machine is open beside one of the other.
+-- A thread is in a call of one machine at most, at a lock of a kind that is the machine's. Both have as many buckets of
+-- keys, and in none are sections open of both.
 pub record IsWhole (w : Shown) : Type 0 where
   pub wait_threads : length w.waits.seats ≡ length w.answers
   pub once_threads : length w.onces.calls ≡ length w.answers
@@ -198,7 +212,8 @@ pub record IsWhole (w : Shown) : Type 0 where
   pub apart : (t : ℕ) → is_busy w.waits t ≡ true → onces.call_at w.onces t ≡ None
   pub at_locks : (k : ℕ) (c : Call) → row.call_at (rows_of w) k ≡ Some c → is_once_at w c.lock ≡ false
   pub at_onces : (t : ℕ) (c : OpenCall) → onces.call_at w.onces t ≡ Some c → is_once_at w c.once ≡ true
-  pub sections : (sides.is_open w.waits ≡ false) ⊎ (w.onces.inside ≡ None)
+  pub buckets : length w.onces.inside ≡ joints.buckets w.waits
+  pub sections : (b : ℕ) → (joints.is_shut w.waits b ≡ false) ⊎ (slot w.onces.inside b ≡ None)
 
 -- RUNS
 

@@ -1,23 +1,13 @@
 //! Which steps a world allows.
 ghost use Rattle.std.specs.Prelude.{◌≡◌};
-ghost use Rattle.parking_lot_world.specs.Worlds.{goes, is_entry, is_in_once, is_once_at, is_variable_at, may_ask};
-ghost use Rattle.parking_lot_world.specs.Worlds.{may_go, may_make, once_enters, once_side, wait_side};
+ghost use Rattle.parking_lot_world.specs.Worlds.{goes, is_in_once, is_once_at, is_variable_at, may_ask};
+ghost use Rattle.parking_lot_world.specs.Worlds.{may_go, may_make, once_enters, once_side, shuts_out, wait_side};
 
 use crate::calls::Asked;
 use crate::step::WorldStep;
 use crate::world::World;
 use parking_lot_protocol::Act;
 use std::alloc::Allocator;
-
-/// Whether an act enters a section.
-fn is_entry(act: Act) -> bool
-    ensures { result ≡ is_entry act }
-{
-    match act {
-        Act::Enter(_) => true,
-        _ => false,
-    }
-}
 
 impl<A: Allocator> World<A> {
     /// Whether a lock is a once.
@@ -47,12 +37,35 @@ impl<A: Allocator> World<A> {
         self.onces.call(thread).is_some()
     }
 
-    /// Whether a thread's call at a once is before a section.
-    fn once_enters(&self, thread: usize) -> bool
+    /// The bucket of the section that a thread's call at a once is before.
+    fn once_enters(&self, thread: usize) -> Option<usize>
         ensures { result ≡ once_enters self.now.onces thread }
     {
         match self.onces.call(thread) {
-            Some(call) => is_entry(call.core.act()),
+            Some(call) => match call.core.act() {
+                Act::Enter(_) => Some(self.onces.bucket(call.once)),
+                _ => None,
+            },
+            None => None,
+        }
+    }
+
+    /// Whether a section of a once is open in a bucket.
+    fn onces_shut(&self, bucket: Option<usize>) -> bool
+        ensures { result ≡ shuts_out (once_side self.now.onces) bucket }
+    {
+        match bucket {
+            Some(bucket) => self.onces.entered(bucket).is_some(),
+            None => false,
+        }
+    }
+
+    /// Whether one of a lock or a condition variable is.
+    fn waits_shut(&self, bucket: Option<usize>) -> bool
+        ensures { result ≡ shuts_out (wait_side self.now.waits) bucket }
+    {
+        match bucket {
+            Some(bucket) => self.waits.is_shut(bucket),
             None => false,
         }
     }
@@ -61,14 +74,16 @@ impl<A: Allocator> World<A> {
     fn wait_goes(&self, thread: usize) -> bool
         ensures { result ≡ goes (wait_side self.now.waits) (once_side self.now.onces) thread }
     {
-        self.waits.may_go(thread) && !(self.waits.enters(thread) && self.onces.inside().is_some())
+        self.waits.may_go(thread)
+            && !(self.onces_shut(self.waits.enters_beside(thread))
+                || self.onces_shut(self.waits.enters(thread)))
     }
 
     /// Whether a thread may make a step of its call at a once.
     fn once_goes(&self, thread: usize) -> bool
         ensures { result ≡ goes (once_side self.now.onces) (wait_side self.now.waits) thread }
     {
-        self.onces.can_move(thread) && !(self.once_enters(thread) && self.waits.is_open())
+        self.onces.can_move(thread) && !self.waits_shut(self.once_enters(thread))
     }
 
     /// Whether a thread may begin a call now.

@@ -24,8 +24,9 @@ use std::marker::Model;
 /// whole. Its code takes nothing from outside, so a run can be repeated; no clause says that it ends the same.
 ///
 /// A list's bucket is its key modulo the number of buckets: the least power of two from 16 on that is three times as
-/// many as the threads, or more. While a section of a lock's list is open, none of a list of that bucket is entered;
-/// one of another bucket may be. A section of a condition variable or a once is open alone.
+/// many as the threads, or more. While a section of a list is open, none of a list of that bucket is entered; one of
+/// another bucket may be. A variable and a once have their first key's list, and a notification enters the bucket of
+/// the mutex together with the variable's.
 ///
 /// The locks have the numbers of their kinds in the list that the world is made with, and threads are numbered from 0.
 /// It takes all memory that its runs need where it is made.

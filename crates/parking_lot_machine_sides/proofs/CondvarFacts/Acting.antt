@@ -40,22 +40,24 @@ wait_still timed listed waiting after (w.Locks true) out h = h
 wait_still timed listed waiting after (w.Locks false) out h = h
 wait_still timed listed waiting after p out h = h
 
-notify_still : (all : Bool) (threads word new waiting after taken : ℕ) (p : NotifyPhase) → notify_is_inside p ≡ false
-    → NotifyKnows all threads word waiting taken p → NotifyKnows all threads new after taken p
-notify_still all threads word new waiting after taken (n.Checks a found) out h = absurd cc
-notify_still all threads word new waiting after taken (n.Moves a locked) out h = absurd cc
-notify_still all threads word new waiting after taken (n.MarksRest notice) out h = absurd cc
-notify_still all threads word new waiting after taken (n.Forgets notice) out h = absurd cc
-notify_still all threads word new waiting after taken p out h = h
+notify_still : (all : Bool) (threads word new : ℕ) (beside now : Option ℕ) (waiting after taken : ℕ) (p : NotifyPhase)
+    → notify_is_inside p ≡ false → NotifyKnows all threads word beside waiting taken p
+    → NotifyKnows all threads new now after taken p
+notify_still all threads word new beside now waiting after taken (n.Checks a found) out h = absurd cc
+notify_still all threads word new beside now waiting after taken (n.Marks a) out h = absurd cc
+notify_still all threads word new beside now waiting after taken (n.Moves a locked) out h = absurd cc
+notify_still all threads word new beside now waiting after taken (n.MarksRest notice) out h = absurd cc
+notify_still all threads word new beside now waiting after taken (n.Forgets notice) out h = absurd cc
+notify_still all threads word new beside now waiting after taken p out h = h
 
 -- one outside the section knows nothing of the list and the word
-pub knows_still : (call : CondvarCall) (listed : Bool) (threads word new waiting after taken : ℕ) (k : Core)
-    → is_inside_by listed k ≡ false
-    → Knows call listed threads word waiting taken k → Knows call listed threads new after taken k
-knows_still call listed threads word new waiting after taken (core.Wait k) out h =
+pub knows_still : (call : CondvarCall) (listed : Bool) (threads word new : ℕ) (beside now : Option ℕ)
+    (waiting after taken : ℕ) (k : Core) → is_inside_by listed k ≡ false
+    → Knows call listed threads word beside waiting taken k → Knows call listed threads new now after taken k
+knows_still call listed threads word new beside now waiting after taken (core.Wait k) out h =
     (h.0, wait_still (is_timed call) listed waiting after k.phase out h.1)
-knows_still call listed threads word new waiting after taken (core.Notify k) out h =
-    (h.0, notify_still (is_of_all call) threads word new waiting after taken k.phase out h.1)
+knows_still call listed threads word new beside now waiting after taken (core.Notify k) out h =
+    (h.0, notify_still (is_of_all call) threads word new beside now waiting after taken k.phase out h.1)
 
 pub same_variable : (a b : ℕ) (ps qs : List Phase) (q r : List ℕ) → a ≡ b → ps ≡ qs → q ≡ r
     → ◌≡◌ {A = Variable} (record { word = a; phases = ps; queue = q }) (record { word = b; phases = qs; queue = r })
@@ -64,9 +66,17 @@ same_variable a b ps qs q r e f g =
     ∙ ap (λ (x : List Phase). record { word = b; phases = x; queue = q }) f
     ∙ ap (λ (x : List ℕ). record { word = b; phases = qs; queue = x }) g
 
--- the word and the list are as before, or the thread is in the section
+-- nobody else is in the section
+abbrev pub NoneBeside : ℕ → State → Type 0
+NoneBeside t s = (x : ℕ) → x ≢ t → is_the s.inside x ≡ false
+
+-- one that is in it is alone there
+pub alone_in : (s : State) (t : ℕ) → is_the s.inside t ≡ true → NoneBeside t s
+alone_in s t its x ne = not_another s.inside t x ne its
+
+-- the word, the list and the mutex beside are as before, or nobody else is in the section
 abbrev pub IsQuiet : ℕ → State → State → Type 0
-IsQuiet t s u = ((u.word ≡ s.word) × (length u.queue ≡ length s.queue)) ⊎ (is_the s.inside t ≡ true)
+IsQuiet t s u = ((u.word ≡ s.word) × (u.beside ≡ s.beside) × (length u.queue ≡ length s.queue)) ⊎ NoneBeside t s
 
 -- others are in the section as before
 abbrev pub OthersStay : ℕ → State → State → Type 0
@@ -90,15 +100,17 @@ module _ (s u : State) (t : ℕ) (c : OpenCall) (o : Option OpenCall) (fits : Fi
 
   other_sits : IsQuiet t s u → OthersStay t s u → (x : ℕ) (d : OpenCall) → x ≢ t → Sits s x d → Sits u x d
   other_sits quiet stay x d ne sits = record {
-    knows = subst (λ m. Knows d.call d.listed m u.word (length u.queue) d.taken d.core) (sym threads) (go quiet);
+    knows = subst (λ m. Knows d.call d.listed m u.word u.beside (length u.queue) d.taken d.core) (sym threads) (go quiet);
     section = sits.section ∙ sym (stay x ne);
   }
     where
-      go : IsQuiet t s u → Knows d.call d.listed (length s.calls) u.word (length u.queue) d.taken d.core
-      go (inl q) = subst (λ m. Knows d.call d.listed (length s.calls) m (length u.queue) d.taken d.core) (sym q.0)
-          (subst (λ m. Knows d.call d.listed (length s.calls) s.word m d.taken d.core) (sym q.1) sits.knows)
-      go (inr its) = knows_still d.call d.listed (length s.calls) s.word u.word (length s.queue) (length u.queue)
-          d.taken d.core (sits.section ∙ not_another s.inside t x ne its) sits.knows
+      go : IsQuiet t s u → Knows d.call d.listed (length s.calls) u.word u.beside (length u.queue) d.taken d.core
+      go (inl q) = subst (λ m. Knows d.call d.listed (length s.calls) m u.beside (length u.queue) d.taken d.core)
+          (sym q.0)
+          (subst (λ o. Knows d.call d.listed (length s.calls) s.word o (length u.queue) d.taken d.core) (sym q.1)
+          (subst (λ m. Knows d.call d.listed (length s.calls) s.word s.beside m d.taken d.core) (sym q.2) sits.knows))
+      go (inr others) = knows_still d.call d.listed (length s.calls) s.word u.word s.beside u.beside (length s.queue)
+          (length u.queue) d.taken d.core (sits.section ∙ others x ne) sits.knows
 
   pub fits_one : (steps : List Step) → Runs t steps (variable s) (variable u)
       → ((d : OpenCall) → o ≡ Some d → Sits u t d) → IsQuiet t s u → OthersStay t s u

@@ -83,12 +83,12 @@ out_at_first NotifyAll = refl
 below : (mutex : ℕ) → nat_lt mutex (2 ^ 64 - 1) ≡ true → mutex + 1 < 2 ^ 64
 below mutex h = omega (arith, ltb-true mutex (2 ^ 64 - 1) h)
 
-knows_at_first : (call : CondvarCall) (threads word waiting : ℕ) → has_number call ≡ true
-    → Knows call true threads word waiting 0 (call_for call).core
-knows_at_first (Wait mutex) threads word waiting h = (tt, (refl, below mutex h))
-knows_at_first (WaitUntil mutex) threads word waiting h = (tt, (refl, below mutex h))
-knows_at_first NotifyOne threads word waiting h = (tt, (refl, refl))
-knows_at_first NotifyAll threads word waiting h = (tt, (refl, refl))
+knows_at_first : (call : CondvarCall) (threads word : ℕ) (beside : Option ℕ) (waiting : ℕ) → has_number call ≡ true
+    → Knows call true threads word beside waiting 0 (call_for call).core
+knows_at_first (Wait mutex) threads word beside waiting h = (tt, (refl, below mutex h))
+knows_at_first (WaitUntil mutex) threads word beside waiting h = (tt, (refl, below mutex h))
+knows_at_first NotifyOne threads word beside waiting h = (tt, (refl, refl))
+knows_at_first NotifyAll threads word beside waiting h = (tt, (refl, refl))
 
 costs_alike : (call : CondvarCall) (threads queue : ℕ) → core_steps threads queue (call_for call).core ≡ cost threads
     call
@@ -146,7 +146,7 @@ module _ (s : State) (t : ℕ) (call : CondvarCall) (fits : Fits s) (may : may_b
 
   sits_at_first : Sits u t c
   sits_at_first = record {
-    knows = knows_at_first call (length u.calls) s.word (length s.queue)
+    knows = knows_at_first call (length u.calls) s.word s.beside (length s.queue)
         (second_of (is_none (call_at s t)) (has_number call) rest);
     section = out_at_first call ∙ sym (not_in (is_the s.inside t) refl);
   }
@@ -160,7 +160,7 @@ module _ (s : State) (t : ℕ) (call : CondvarCall) (fits : Fits s) (may : may_b
           sits_at_first)
       | inr ne ↦ let sits = fits.seated x d (sym (call_elsewhere s.calls t x (Some c) ne) ∙ at) in
           record {
-            knows = subst (λ m. Knows d.call d.listed m s.word (length s.queue) d.taken d.core)
+            knows = subst (λ m. Knows d.call d.listed m s.word s.beside (length s.queue) d.taken d.core)
                 (sym (length-set s.calls t (Some c))) sits.knows;
             section = sits.section;
           }

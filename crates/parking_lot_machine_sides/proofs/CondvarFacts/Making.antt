@@ -15,6 +15,7 @@ use Rattle.parking_lot_machine_sides.specs.Condvar.Calls.{OpenCall, off_list, to
 use Rattle.parking_lot_machine_sides.specs.Condvar.Fitting.{Fits}
 use Rattle.parking_lot_machine_sides.specs.Condvar.Machines.{State, call_at, call_in, is_left, may_step, may_take}
 use Rattle.parking_lot_machine_sides.specs.Condvar.Machines.{phase_by}
+use Rattle.parking_lot_machine_sides.specs.Condvar.OwnSteps.{beside_after_notify, beside_after_wait}
 use Rattle.parking_lot_machine_sides.specs.Condvar.OwnSteps.{WhereItJoins, inside_after_notify, inside_after_wait}
 use Rattle.parking_lot_machine_sides.specs.Condvar.OwnSteps.{notify_goes, notify_sees, queue_after_wait, stepped}
 use Rattle.parking_lot_machine_sides.specs.Condvar.OwnSteps.{stepped_by, wait_goes, wait_sees, word_after_notify}
@@ -33,36 +34,49 @@ low {m} t c e here = within m.calls t c (held t c e here)
 pub may_so : {m n : State} (c : OpenCall) → m ≡ n → may_step n.inside c ≡ true → may_step m.inside c ≡ true
 may_so c e may = ap (λ (x : State). may_step x.inside c) e ∙ may
 
-same_state : (a b : ℕ) (cs ds : List (Option OpenCall)) (q r : List ℕ) (i j : Option ℕ) → a ≡ b → cs ≡ ds → q ≡ r
-    → i ≡ j
-    → ◌≡◌ {A = State} (record { word = a; calls = cs; queue = q; inside = i })
-    (record { word = b; calls = ds; queue = r; inside = j })
-same_state a b cs ds q r i j e f g h =
-    ap (λ (x : ℕ). record { word = x; calls = cs; queue = q; inside = i }) e
-    ∙ ap (λ (x : List (Option OpenCall)). record { word = b; calls = x; queue = q; inside = i }) f
-    ∙ ap (λ (x : List ℕ). record { word = b; calls = ds; queue = x; inside = i }) g
-    ∙ ap (λ (x : Option ℕ). record { word = b; calls = ds; queue = r; inside = x }) h
+same_state : (a b : ℕ) (cs ds : List (Option OpenCall)) (q r : List ℕ) (i j k l : Option ℕ) → a ≡ b → cs ≡ ds → q ≡ r
+    → i ≡ j → k ≡ l
+    → ◌≡◌ {A = State} (record { word = a; calls = cs; queue = q; inside = i; beside = k })
+    (record { word = b; calls = ds; queue = r; inside = j; beside = l })
+same_state a b cs ds q r i j k l e f g h o =
+    ap (λ (x : ℕ). record { word = x; calls = cs; queue = q; inside = i; beside = k }) e
+    ∙ ap (λ (x : List (Option OpenCall)). record { word = b; calls = x; queue = q; inside = i; beside = k }) f
+    ∙ ap (λ (x : List ℕ). record { word = b; calls = ds; queue = x; inside = i; beside = k }) g
+    ∙ ap (λ (x : Option ℕ). record { word = b; calls = ds; queue = r; inside = x; beside = k }) h
+    ∙ ap (λ (x : Option ℕ). record { word = b; calls = ds; queue = r; inside = j; beside = x }) o
 
 pub notified : (m : State) (t : ℕ) (c : OpenCall) (k : NotifyCore) → c.core ≡ core.Notify k
-    → (word : ℕ) (goes : Option OpenCall) (inside : Option ℕ)
+    → (word : ℕ) (goes : Option OpenCall) (inside beside : Option ℕ)
     → word ≡ word_after_notify k.phase m.word → goes ≡ notify_goes c k (notify_sees m.word k.phase) k.phase
-    → inside ≡ inside_after_notify t k.phase m.inside
-    → ◌≡◌ {A = State} (record { word = word; calls = slice_set m.calls t goes; queue = m.queue; inside = inside })
-    (stepped m t c)
-notified m t c k its word goes inside e f g =
-    same_state word _ (slice_set m.calls t goes) _ m.queue m.queue inside _ e (ap (λ o. slice_set m.calls t o) f) refl g
+    → inside ≡ inside_after_notify t k.phase m.inside → beside ≡ beside_after_notify k.phase m.beside
+    → ◌≡◌ {A = State} (record {
+      word = word;
+      calls = slice_set m.calls t goes;
+      queue = m.queue;
+      inside = inside;
+      beside = beside;
+    }) (stepped m t c)
+notified m t c k its word goes inside beside e f g h =
+    same_state word _ (slice_set m.calls t goes) _ m.queue m.queue inside _ beside _ e
+    (ap (λ o. slice_set m.calls t o) f) refl g h
     ∙ sym (ap (λ x. stepped_by x m t c) its)
 
 pub waited : (m : State) (t : ℕ) (c : OpenCall) (k : WaitCore) → c.core ≡ core.Wait k
-    → (word : ℕ) (goes : Option OpenCall) (queue : List ℕ) (inside : Option ℕ)
+    → (word : ℕ) (goes : Option OpenCall) (queue : List ℕ) (inside beside : Option ℕ)
     → word ≡ word_after_wait k.phase m.word → goes ≡ wait_goes c k (wait_sees m.word (is_left queue) k.phase) k.phase
     → queue ≡ queue_after_wait t k.phase m.queue → inside ≡ inside_after_wait t k.phase m.inside
-    → ◌≡◌ {A = State} (record { word = word; calls = slice_set m.calls t goes; queue = queue; inside = inside })
-    (stepped m t c)
-waited m t c k its word goes queue inside e f g h =
-    same_state word _ (slice_set m.calls t goes) _ queue _ inside _ e
+    → beside ≡ beside_after_wait k.phase m.beside
+    → ◌≡◌ {A = State} (record {
+      word = word;
+      calls = slice_set m.calls t goes;
+      queue = queue;
+      inside = inside;
+      beside = beside;
+    }) (stepped m t c)
+waited m t c k its word goes queue inside beside e f g h i =
+    same_state word _ (slice_set m.calls t goes) _ queue _ inside _ beside _ e
     (ap (λ o. slice_set m.calls t o) (f ∙ ap (λ q. wait_goes c k (wait_sees m.word (is_left q) k.phase) k.phase) g))
-    g h
+    g h i
     ∙ sym (ap (λ x. stepped_by x m t c) its)
 
 -- there is room in the list for one that joins it
@@ -100,11 +114,12 @@ pub took : (m : State) (t : ℕ) (c : OpenCall) (v : ℕ) (off : Option OpenCall
     → ◌≡◌ {A = State} (record m { calls = slice_set (slice_set m.calls v off) t (Some one); queue = queue })
     (taken_by m t c v)
 took m t c v off one queue e f g =
-    same_state m.word m.word (slice_set (slice_set m.calls v off) t (Some one)) _ queue _ m.inside m.inside refl
+    same_state m.word m.word (slice_set (slice_set m.calls v off) t (Some one)) _ queue _ m.inside m.inside m.beside
+    m.beside refl
     (ap (λ o. slice_set (slice_set m.calls v o) t (Some one)) e
     ∙ ap (λ d. slice_set (slice_set m.calls v (option_map off_list (call_in m.calls v))) t (Some d)) f)
     g
-    refl
+    refl refl
 
 -- whoever was taken, was the first
 pub taken_if : (s : State) (t : ℕ) (c : OpenCall) → Fits s → call_at s t ≡ Some c → may_take s.queue c ≡ true

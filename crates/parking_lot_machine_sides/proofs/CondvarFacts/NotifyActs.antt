@@ -1,5 +1,5 @@
 -- An act of a notification at the variable is steps of the rules, and keeps what holds of the machine.
-use Rattle.std.proofs.Common.{◌≡◌, ◌≢◌, ℕ, zero, suc, ◌+◌, ◌<◌, ◌≤◌, ◌⊎◌, inl, inr, Bool, true, false, cond, ◌==◌}
+use Rattle.std.proofs.Common.{◌≡◌, ◌≢◌, ℕ, zero, suc, ◌+◌, ◌-◌, ◌<◌, ◌≤◌, ◌⊎◌, inl, inr, Bool, true, false, cond, ◌==◌}
 use Rattle.std.proofs.Common.{nat_lt, List, [], ◌∷◌, length, Option, Some, None, slice_set, refl, sym, ap, ◌∙◌, subst}
 use Rattle.std.proofs.Common.{arith, eqb-true}
 use Rattle.std.proofs.lemmas.Bool.{ltb-true, ltb-false, ne_eqb}
@@ -22,7 +22,8 @@ use Rattle.parking_lot_machine_sides.specs.Condvar.Machines.{State, call_at, is_
 use Rattle.parking_lot_machine_sides.specs.Condvar.OwnSteps.{closing, steps_if, steps_of, stepped}
 use Rattle.parking_lot_machine_sides.specs.Condvar.Steps.{Runs}
 use Rattle.parking_lot_machine_sides.specs.Condvar.Turns.{notify_is_inside}
-use Rattle.parking_lot_machine_sides.proofs.CondvarFacts.Acting.{IsQuiet, OthersStay, fits_one, it_is, makes_none}
+use Rattle.parking_lot_machine_sides.proofs.CondvarFacts.Acting.{IsQuiet, OthersStay, alone_in, fits_one, it_is}
+use Rattle.parking_lot_machine_sides.proofs.CondvarFacts.Acting.{makes_none}
 use Rattle.parking_lot_machine_sides.proofs.CondvarFacts.Acting.{makes_plain, not_another}
 use Rattle.parking_lot_machine_sides.proofs.CondvarFacts.Phases.{none_inside, waiters}
 use Rattle.parking_lot_machine_sides.proofs.CondvarFacts.WaitActs.{Made, nobody}
@@ -72,7 +73,7 @@ module _ (s : State) (t : ℕ) (call : CondvarCall) (listed : Bool) (taken : ℕ
   abbrev pub Makes : NotifyPhase → Type 0
   Makes p = Made t (steps_of s t (notifying call listed taken p)) s (now p)
 
-  pub knows : (p : NotifyPhase) → Here p → IsNotify call × NotifyKnows (is_of_all call) (length s.calls) s.word
+  pub knows : (p : NotifyPhase) → Here p → IsNotify call × NotifyKnows (is_of_all call) (length s.calls) s.word s.beside
       (length s.queue) taken p
   knows p here = (fits.seated t (notifying call listed taken p) here).knows
 
@@ -92,7 +93,7 @@ module _ (s : State) (t : ℕ) (call : CondvarCall) (listed : Bool) (taken : ℕ
     threads = ap (λ (cs : List (Option OpenCall)). length cs) calls ∙ length-set s.calls t (Some d)
 
     abbrev pub Known : Type 0
-    Known = NotifyKnows (is_of_all call) (length s.calls) u.word (length u.queue) taken q
+    Known = NotifyKnows (is_of_all call) (length s.calls) u.word u.beside (length u.queue) taken q
 
     pub sits : (steps : List Step) → Runs t steps (variable s) (variable u) → Known
         → notify_is_inside q ≡ is_the u.inside t → IsQuiet t s u → OthersStay t s u → Made t steps s u
@@ -103,7 +104,7 @@ module _ (s : State) (t : ℕ) (call : CondvarCall) (listed : Bool) (taken : ℕ
           (record {
             knows = (
               (knows p here).0,
-              subst (λ m. NotifyKnows (is_of_all call) m u.word (length u.queue) taken q)
+              subst (λ m. NotifyKnows (is_of_all call) m u.word u.beside (length u.queue) taken q)
                   (sym threads) know,
             );
             section = at;
@@ -134,29 +135,29 @@ module _ (s : State) (t : ℕ) (call : CondvarCall) (listed : Bool) (taken : ℕ
           ap (λ b. cond b (n.Ends 0) (n.Enters all s.word)) e in
           none (n.Loads all) here (now (n.Loads all)) (next_phase (n.Loads all) (seen.Word s.word)) refl
           (ap notifies.does is) refl refl
-          (subst (NotifyKnows (is_of_all call) (length s.calls) s.word (length s.queue) taken) (sym is)
+          (subst (NotifyKnows (is_of_all call) (length s.calls) s.word s.beside (length s.queue) taken) (sym is)
           (sym known.1, takes_none (is_of_all call) taken known.1))
-          (ap notify_is_inside is ∙ inside (n.Loads all) here) (inl (refl, refl)) (λ x ne. refl)
+          (ap notify_is_inside is ∙ inside (n.Loads all) here) (inl (refl, refl, refl)) (λ x ne. refl)
       go false e =
           let is : next_phase (n.Loads all) (seen.Word s.word) ≡ n.Enters all s.word =
           ap (λ b. cond b (n.Ends 0) (n.Enters all s.word)) e in
           none (n.Loads all) here (now (n.Loads all)) (next_phase (n.Loads all) (seen.Word s.word)) refl
           (ap notifies.does is) refl refl
-          (subst (NotifyKnows (is_of_all call) (length s.calls) s.word (length s.queue) taken) (sym is) known)
-          (ap notify_is_inside is ∙ inside (n.Loads all) here) (inl (refl, refl)) (λ x ne. refl)
+          (subst (NotifyKnows (is_of_all call) (length s.calls) s.word s.beside (length s.queue) taken) (sym is) known)
+          (ap notify_is_inside is ∙ inside (n.Loads all) here) (inl (refl, refl, refl)) (λ x ne. refl)
 
   enters : (all : Bool) (found : ℕ) → Here (n.Enters all found) → s.inside ≡ None → Makes (n.Enters all found)
   enters all found here free =
       let known = (knows (n.Enters all found) here).1 in
       plain (n.Enters all found) here (now (n.Enters all found)) (n.Checks all found) refl rules.Notify refl refl
       (none_inside s fits free) refl refl
-      (known.0, known.1, somebody s fits free) (sym (it_is t)) (inl (refl, refl))
+      (known.0, known.1, somebody s fits free, refl) (sym (it_is t)) (inr (λ x ne. ap (λ o. is_the o x) free))
       (λ x ne. ne_eqb t x (λ e. ne (sym e)) ∙ sym (ap (λ o. is_the o x) free))
 
   checks : (all : Bool) (found : ℕ) → Here (n.Checks all found) → Makes (n.Checks all found)
   checks all found here = go (s.word == found) (is_left s.queue) refl refl
     where
-      known : (all ≡ is_of_all call) × (taken ≡ 0) × (0 < s.word → 0 < length s.queue)
+      known : (all ≡ is_of_all call) × (taken ≡ 0) × (0 < s.word → 0 < length s.queue) × (s.beside ≡ Some (found - 1))
       known = (knows (n.Checks all found) here).1
 
       its : true ≡ is_the s.inside t
@@ -173,9 +174,9 @@ module _ (s : State) (t : ℕ) (call : CondvarCall) (listed : Bool) (taken : ℕ
           subst (λ x. Made t x s (now (n.Checks all found))) (sym (steps_so true g e h))
           (none (n.Checks all found) here (now (n.Checks all found))
           (next_phase (n.Checks all found) (seen.Word s.word)) refl (ap notifies.does is) refl refl
-          (subst (NotifyKnows (is_of_all call) (length s.calls) s.word (length s.queue) taken) (sym is)
-          (known.0, known.1))
-          (ap notify_is_inside is ∙ its) (inl (refl, refl)) (λ x ne. refl))
+          (subst (NotifyKnows (is_of_all call) (length s.calls) s.word s.beside (length s.queue) taken) (sym is)
+          (known.0, known.1, known.3 ∙ ap (λ (m : ℕ). Some (m - 1)) (sym (eqb-true s.word found e))))
+          (ap notify_is_inside is ∙ its) (inl (refl, refl, refl)) (λ x ne. refl))
 
       other : (s.word == found) ≡ false → (k : rules.Plain) (g : Bool) → is_left s.queue ≡ g
           → steps_if false g ≡ Alone k ∷ [] → rules.Notifies ≡ rules.from k → rules.Left ≡ rules.to k
@@ -188,9 +189,9 @@ module _ (s : State) (t : ℕ) (call : CondvarCall) (listed : Bool) (taken : ℕ
           subst (λ x. Made t x s (now (n.Checks all found))) (sym (steps_so false g e h ∙ steps))
           (plain (n.Checks all found) here (now (n.Checks all found))
           (next_phase (n.Checks all found) (seen.Word s.word)) refl k from (ap notifies.does is ∙ to) may word refl
-          (subst (NotifyKnows (is_of_all call) (length s.calls) s.word (length s.queue) taken) (sym is)
+          (subst (NotifyKnows (is_of_all call) (length s.calls) s.word s.beside (length s.queue) taken) (sym is)
           (sym known.1, takes_none (is_of_all call) taken known.1))
-          (ap notify_is_inside is ∙ its) (inl (refl, refl)) (λ x ne. refl))
+          (ap notify_is_inside is ∙ its) (inl (refl, refl, refl)) (λ x ne. refl))
 
       go : (f g : Bool) → (s.word == found) ≡ f → is_left s.queue ≡ g → Makes (n.Checks all found)
       go true g e h = same e g h
@@ -206,7 +207,7 @@ module _ (s : State) (t : ℕ) (call : CondvarCall) (listed : Bool) (taken : ℕ
       let known = (knows (n.Forgets notice) here).1 in
       plain (n.Forgets notice) here (now (n.Forgets notice)) (n.Leaves notice) refl (rules.Forget rules.Notifies) refl
       refl (inr refl, sym (waiters s fits) ∙ known.1) refl refl
-      (known.0, known.2) (inside (n.Forgets notice) here) (inr (sym (inside (n.Forgets notice) here))) (λ x ne. refl)
+      (known.0, known.2) (inside (n.Forgets notice) here) (inr (alone_in s t (sym (inside (n.Forgets notice) here)))) (λ x ne. refl)
 
   goes : (notice : Notice) → Here (n.Leaves notice) → Makes (n.Leaves notice)
   goes notice here = go notice.wakes refl
@@ -219,11 +220,11 @@ module _ (s : State) (t : ℕ) (call : CondvarCall) (listed : Bool) (taken : ℕ
 
       to_phase : (q : NotifyPhase) → next_phase (n.Leaves notice) seen.Made ≡ q → notifies.does q ≡ rules.Idle
           → notify_is_inside q ≡ false
-          → NotifyKnows (is_of_all call) (length s.calls) s.word (length s.queue) taken q → Makes (n.Leaves notice)
+          → NotifyKnows (is_of_all call) (length s.calls) s.word s.beside (length s.queue) taken q → Makes (n.Leaves notice)
       to_phase q is idle out know = plain (n.Leaves notice) here (now (n.Leaves notice))
           (next_phase (n.Leaves notice) seen.Made) refl rules.Go refl (ap notifies.does is ∙ idle) tt refl refl
-          (subst (NotifyKnows (is_of_all call) (length s.calls) s.word (length s.queue) taken) (sym is) know)
-          (ap notify_is_inside is ∙ out) (inl (refl, refl))
+          (subst (NotifyKnows (is_of_all call) (length s.calls) s.word s.beside (length s.queue) taken) (sym is) know)
+          (ap notify_is_inside is ∙ out) (inl (refl, refl, refl))
           (λ x ne. sym (not_another s.inside t x ne (sym its)))
 
       go : (b : Bool) → notice.wakes ≡ b → Makes (n.Leaves notice)
@@ -239,7 +240,7 @@ module _ (s : State) (t : ℕ) (call : CondvarCall) (listed : Bool) (taken : ℕ
       record {
         lawful = run;
         fits = fits_one s (now (n.Ends count)) t c None fits here refl [] run (λ d e. absurd (none-some d e))
-            (inl (refl, refl)) (λ x ne. refl)
+            (inl (refl, refl, refl)) (λ x ne. refl)
             (λ h. absurd (let x : false ≡ true = inside (n.Ends count) here ∙ h in cc));
       }
 

@@ -111,22 +111,22 @@ wait_ends c listed waiting (w.Ends a) r e is know = subst (MayReply c) (same_Som
     (wait_replies c a is know)
 wait_ends c listed waiting p r e is know = absurd (none-some r e)
 
-notify_ends : (c : OpenCall) (threads word waiting : ℕ) (p : NotifyPhase) (r : CondvarReply)
+notify_ends : (c : OpenCall) (threads word : ℕ) (beside : Option ℕ) (waiting : ℕ) (p : NotifyPhase) (r : CondvarReply)
     → reply_in_notify (is_of_all c.call) p ≡ Some r → IsNotify c.call
-    → NotifyKnows (is_of_all c.call) threads word waiting c.taken p → MayReply c r
-notify_ends c threads word waiting (n.Ends count) r e is know =
+    → NotifyKnows (is_of_all c.call) threads word beside waiting c.taken p → MayReply c r
+notify_ends c threads word beside waiting (n.Ends count) r e is know =
     subst (MayReply c) (same_Some (notify_reply (is_of_all c.call) count) r e)
     (notify_replies c c.call count refl is know.0 know.1)
-notify_ends c threads word waiting p r e is know = absurd (none-some r e)
+notify_ends c threads word beside waiting p r e is know = absurd (none-some r e)
 
-ends : (c : OpenCall) (threads word waiting : ℕ) (k : Core) (r : CondvarReply) → reply_by c.call k ≡ Some r
-    → Knows c.call c.listed threads word waiting c.taken k → MayReply c r
-ends c threads word waiting (core.Wait k) r e know = wait_ends c c.listed waiting k.phase r e know.0 know.1
-ends c threads word waiting (core.Notify k) r e know = notify_ends c threads word waiting k.phase r e know.0 know.1
+ends : (c : OpenCall) (threads word : ℕ) (beside : Option ℕ) (waiting : ℕ) (k : Core) (r : CondvarReply) → reply_by c.call k ≡ Some r
+    → Knows c.call c.listed threads word beside waiting c.taken k → MayReply c r
+ends c threads word beside waiting (core.Wait k) r e know = wait_ends c c.listed waiting k.phase r e know.0 know.1
+ends c threads word beside waiting (core.Notify k) r e know = notify_ends c threads word beside waiting k.phase r e know.0 know.1
 
 pub replies_fit : RepliesFit
 replies_fit s u t c r fits here step =
-    ends c (length s.calls) s.word (length s.queue) c.core r
+    ends c (length s.calls) s.word s.beside (length s.queue) c.core r
     (subst (λ (d : OpenCall). reply_by d.call d.core ≡ Some r) (same_Some step.call c (sym step.here ∙ here))
     (sym step.replies))
     (fits.seated t c here).knows

@@ -46,18 +46,18 @@ pub record IsWaiter (listed : Bool) (k : Core) : Type 0 where
   pub out : inside stay ≡ 0
   pub gone : phase_by false k ≡ rules.Idle
   pub away : is_inside_by false k ≡ false
-  pub still : (call : CondvarCall) (threads word waiting taken : ℕ) → Knows call listed threads word waiting taken k
-      → Knows call false threads word waiting taken k
+  pub still : (call : CondvarCall) (threads word : ℕ) (beside : Option ℕ) (waiting taken : ℕ)
+      → Knows call listed threads word beside waiting taken k → Knows call false threads word beside waiting taken k
 
 wait_waits : (listed : Bool) (p : WaitPhase) → 0 < weight Waiting (waits.does (spot_of listed) p)
     → wait_is_inside listed p ≡ false → IsWaiter listed (core.Wait (record { phase = p }))
 unfolding weight
 wait_waits true (w.Unlocks k) h out =
-    record { mutex = k; stay = Asleep; is = refl; out = refl; gone = refl; away = refl; still = λ call a b c d x. x }
+    record { mutex = k; stay = Asleep; is = refl; out = refl; gone = refl; away = refl; still = λ call a b o c d x. x }
 wait_waits true (w.Sleeps k) h out =
-    record { mutex = k; stay = Asleep; is = refl; out = refl; gone = refl; away = refl; still = λ call a b c d x. x }
+    record { mutex = k; stay = Asleep; is = refl; out = refl; gone = refl; away = refl; still = λ call a b o c d x. x }
 wait_waits true (w.Expires k) h out =
-    record { mutex = k; stay = Late; is = refl; out = refl; gone = refl; away = refl; still = λ call a b c d x. x }
+    record { mutex = k; stay = Late; is = refl; out = refl; gone = refl; away = refl; still = λ call a b o c d x. x }
 wait_waits true (w.Quits k) h out = absurd cc
 wait_waits false (w.Unlocks k) h out = absurd (omega (arith, h))
 wait_waits false (w.Sleeps k) h out = absurd (omega (arith, h))
@@ -188,13 +188,13 @@ module _ (s : State) (t : ℕ) (call : CondvarCall) (its_list : Bool) (taken : �
   )
 
   sits_still : (x : ℕ) (f : OpenCall) → x ≢ t → (g : OpenCall)
-      → (Knows f.call f.listed (length s.calls) s.word (length s.queue) f.taken f.core
-      → Knows g.call g.listed (length s.calls) s.word (length s.queue) g.taken g.core)
+      → (Knows f.call f.listed (length s.calls) s.word s.beside (length s.queue) f.taken f.core
+      → Knows g.call g.listed (length s.calls) s.word s.beside (length s.queue) g.taken g.core)
       → is_inside g ≡ false → is_inside f ≡ false → Sits s x f → Sits u x g
   sits_still x f ne g know out was sits = record {
-    knows = subst (λ m. Knows g.call g.listed m s.word (length u.queue) g.taken g.core) (sym threads)
-        (knows_still g.call g.listed (length s.calls) s.word s.word (length s.queue) (length u.queue) g.taken g.core out
-        (know sits.knows));
+    knows = subst (λ m. Knows g.call g.listed m s.word s.beside (length u.queue) g.taken g.core) (sym threads)
+        (knows_still g.call g.listed (length s.calls) s.word s.word s.beside s.beside (length s.queue) (length u.queue)
+        g.taken g.core out (know sits.knows));
     section = out ∙ sym was ∙ sits.section;
   }
 
@@ -214,7 +214,7 @@ module _ (s : State) (t : ℕ) (call : CondvarCall) (its_list : Bool) (taken : �
       | inr nt ↦ elim (cases_eq x v) [
         | inl eq ↦ subst (λ y. Sits u y f) (sym eq)
             (subst (Sits u v) (same_Some e f (sym second_call ∙ ap (call_at u) (sym eq) ∙ at))
-            (sits_still v b apart e (is_waiter.still b.call (length s.calls) s.word (length s.queue) b.taken)
+            (sits_still v b apart e (is_waiter.still b.call (length s.calls) s.word s.beside (length s.queue) b.taken)
             is_waiter.away outside (fits.seated v b its_waiter.1)))
         | inr nv ↦ let sits = fits.seated x f (sym (others x nt nv) ∙ at) in
             let out = sits.section ∙ not_another s.inside t x nt (sym its) in sits_still x f nt f (λ h. h) out out sits

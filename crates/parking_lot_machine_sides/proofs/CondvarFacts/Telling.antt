@@ -57,7 +57,7 @@ module _ (s : State) (t : ℕ) (call : CondvarCall) (taken : ℕ) (fits : Fits s
       listed (wait.next_phase p (wait_hears seen)) refl
       (ap (waits.does (spot_of listed)) is ∙ same) refl refl
       (subst (WaitKnows (is_timed call) listed (length s.queue)) (sym is) know)
-      (ap (wait_is_inside listed) is ∙ at ∙ of_wait.inside s t call taken fits listed p here) (inl (refl, refl))
+      (ap (wait_is_inside listed) is ∙ at ∙ of_wait.inside s t call taken fits listed p here) (inl (refl, refl, refl))
       (λ x ne. refl)
 
   -- it is woken by a token
@@ -86,7 +86,7 @@ module _ (s : State) (t : ℕ) (call : CondvarCall) (taken : ℕ) (fits : Fits s
       → Made t (expires_at k true) s (then true (w.Sleeps k) outside.Expired)
   expires k here timed = of_wait.plain s t call taken fits true (w.Sleeps k) here
       (then true (w.Sleeps k) outside.Expired) true (w.Expires k) refl (rules.Expire k) refl refl tt refl refl timed
-      (of_wait.inside s t call taken fits true (w.Sleeps k) here) (inl (refl, refl)) (λ x ne. refl)
+      (of_wait.inside s t call taken fits true (w.Sleeps k) here) (inl (refl, refl, refl)) (λ x ne. refl)
 
   pub wait_told : (listed : Bool) (p : WaitPhase) (seen : Outside) → Here listed p
       → wait_fits (is_timed call) listed p seen ≡ true → Made t (wait_expires listed p seen) s (then listed p seen)
@@ -155,7 +155,7 @@ module _ (s : State) (t : ℕ) (call : CondvarCall) (listed : Bool) (taken : ℕ
   next p seen = heard s t (notifying call listed taken p) seen
 
   abbrev Knows : NotifyPhase → Type 0
-  Knows q = NotifyKnows (is_of_all call) (length s.calls) s.word (length s.queue) taken q
+  Knows q = NotifyKnows (is_of_all call) (length s.calls) s.word s.beside (length s.queue) taken q
 
   marks : (all locked : Bool) → At (n.Marks all) → Made t [] s (next (n.Marks all) (outside.Marked locked))
   marks all locked here =
@@ -163,7 +163,7 @@ module _ (s : State) (t : ℕ) (call : CondvarCall) (listed : Bool) (taken : ℕ
       of_notify.none s t call listed taken fits (n.Marks all) here (next (n.Marks all) (outside.Marked locked))
       (n.Moves all locked) refl refl refl refl
       (known.0, omega (arith, known.1, few_wait s fits), of_notify.takes_none (is_of_all call) taken known.1)
-      (of_notify.inside s t call listed taken fits (n.Marks all) here) (inl (refl, refl)) (λ x ne. refl)
+      (of_notify.inside s t call listed taken fits (n.Marks all) here) (inl (refl, refl, refl)) (λ x ne. refl)
 
   rest_marks : (notice : Notice) → At (n.MarksRest notice)
       → Made t (closes notice.left) s (next (n.MarksRest notice) outside.Made)
@@ -176,13 +176,13 @@ module _ (s : State) (t : ℕ) (call : CondvarCall) (listed : Bool) (taken : ℕ
       (notify.next_phase (n.MarksRest notice) notify_seen.Made) refl (ap notifies.does is) refl refl
       (subst Knows (sym is) (known.0, known.2, known.3))
       (ap notify_is_inside is ∙ of_notify.inside s t call listed taken fits (n.MarksRest notice) here)
-      (inl (refl, refl)) (λ x ne. refl))
+      (inl (refl, refl, refl)) (λ x ne. refl))
 
   wakes : (count : ℕ) → At (n.Wakes count) → Made t [] s (next (n.Wakes count) outside.Made)
   wakes count here = of_notify.none s t call listed taken fits (n.Wakes count) here (next (n.Wakes count) outside.Made)
       (n.Ends count) refl refl refl refl
       (of_notify.knows s t call listed taken fits (n.Wakes count) here).1
-      (of_notify.inside s t call listed taken fits (n.Wakes count) here) (inl (refl, refl)) (λ x ne. refl)
+      (of_notify.inside s t call listed taken fits (n.Wakes count) here) (inl (refl, refl, refl)) (λ x ne. refl)
 
   module _ (all locked : Bool) (unparked requeued : ℕ) (here : At (n.Moves all locked))
       (may : all_taken taken (is_left s.queue) all locked unparked requeued ≡ true) where
@@ -238,7 +238,7 @@ module _ (s : State) (t : ℕ) (call : CondvarCall) (listed : Bool) (taken : ℕ
         → notifies.does r ≡ rules.Notifies → notify_is_inside r ≡ true → Knows r → Goal
     silent f g e h none r is does in_it know = subst (λ x. Made t x s (next p seen)) (sym (steps_so f g e h ∙ none))
         (of_notify.none s t call listed taken fits p here (next p seen) q refl (ap notifies.does is ∙ does) refl refl
-        (subst Knows (sym is) know) (ap notify_is_inside is ∙ in_it ∙ its) (inl (refl, refl)) (λ x ne. refl))
+        (subst Knows (sym is) know) (ap notify_is_inside is ∙ in_it ∙ its) (inl (refl, refl, refl)) (λ x ne. refl))
 
     closing : is_left s.queue ≡ true → rest ≡ false → Goal
     closing e h =
@@ -248,7 +248,7 @@ module _ (s : State) (t : ℕ) (call : CondvarCall) (listed : Bool) (taken : ℕ
         subst (λ x. Made t x s (next p seen)) (sym (steps_so true false e h))
         (of_notify.plain s t call listed taken fits p here (next p seen) q refl (rules.Keep rules.Notifies) refl
         (ap notifies.does is) (inr refl, omega (arith, ltb-true 0 (length s.queue) e, waiters s fits)) refl refl
-        (subst Knows (sym is) (counts, known.2)) (ap notify_is_inside is ∙ its) (inl (refl, refl)) (λ x ne. refl))
+        (subst Knows (sym is) (counts, known.2)) (ap notify_is_inside is ∙ its) (inl (refl, refl, refl)) (λ x ne. refl))
 
     go : (f g : Bool) → is_left s.queue ≡ f → rest ≡ g → Goal
     go true false e h = closing e h

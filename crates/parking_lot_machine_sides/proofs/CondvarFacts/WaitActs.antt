@@ -26,7 +26,8 @@ use Rattle.parking_lot_machine_sides.specs.Condvar.OwnSteps.{checking, place_of,
 use Rattle.parking_lot_machine_sides.specs.Condvar.OwnSteps.{without}
 use Rattle.parking_lot_machine_sides.specs.Condvar.Steps.{Runs}
 use Rattle.parking_lot_machine_sides.specs.Condvar.Turns.{is_inside, wait_is_inside}
-use Rattle.parking_lot_machine_sides.proofs.CondvarFacts.Acting.{IsQuiet, OthersStay, fits_one, it_is, makes_none}
+use Rattle.parking_lot_machine_sides.proofs.CondvarFacts.Acting.{IsQuiet, OthersStay, alone_in, fits_one, it_is}
+use Rattle.parking_lot_machine_sides.proofs.CondvarFacts.Acting.{makes_none}
 use Rattle.parking_lot_machine_sides.proofs.CondvarFacts.Acting.{makes_plain, not_another, phases_one}
 use Rattle.parking_lot_machine_sides.proofs.CondvarFacts.Phases.{none_inside, phase_there, waiters}
 use Rattle.parking_lot_machine_sides.proofs.CondvarFacts.Places.{placed}
@@ -112,7 +113,7 @@ module _ (s : State) (t : ℕ) (call : CondvarCall) (taken : ℕ) (fits : Fits s
   enters : (k : ℕ) (listed : Bool) → Here listed (w.Enters k) → s.inside ≡ None → Makes listed (w.Enters k)
   enters k listed here free = plain listed (w.Enters k) here (now listed (w.Enters k)) listed (w.Checks k) refl
       (rules.Enter k) refl refl (none_inside s fits free) refl refl
-      (knows listed (w.Enters k) here).1 (sym (it_is t)) (inl (refl, refl)) (comes free)
+      (knows listed (w.Enters k) here).1 (sym (it_is t)) (inr (λ x ne. ap (λ o. is_the o x) free)) (comes free)
 
   module _ (k : ℕ) (listed : Bool) (here : Here listed (w.Checks k)) where
     known : WaitKnows (is_timed call) listed (length s.queue) (w.Checks k)
@@ -146,7 +147,7 @@ module _ (s : State) (t : ℕ) (call : CondvarCall) (taken : ℕ) (fits : Fits s
         (plain listed (w.Checks k) here (now listed (w.Checks k)) listed looked refl (rules.Check k) refl
         (ap (waits.does (spot_of listed)) is) may refl refl
         (subst (WaitKnows (is_timed call) listed (length s.queue)) (sym is) known)
-        (ap (wait_is_inside listed) is ∙ its_place) (inl (refl, refl)) (λ x ne. refl))
+        (ap (wait_is_inside listed) is ∙ its_place) (inl (refl, refl, refl)) (λ x ne. refl))
 
     bad : (s.word == 0) ≡ false → (s.word == k + 1) ≡ false → Makes listed (w.Checks k)
     bad e h =
@@ -155,7 +156,7 @@ module _ (s : State) (t : ℕ) (call : CondvarCall) (taken : ℕ) (fits : Fits s
         (ap (waits.does (spot_of listed)) (which false false e h))
         (eqb-false s.word 0 e, eqb-false s.word (k + 1) h) refl refl
         (subst (WaitKnows (is_timed call) listed (length s.queue)) (sym (which false false e h)) tt)
-        (ap (wait_is_inside listed) (which false false e h) ∙ its_place) (inl (refl, refl)) (λ x ne. refl))
+        (ap (wait_is_inside listed) (which false false e h) ∙ its_place) (inl (refl, refl, refl)) (λ x ne. refl))
 
     go : (f g : Bool) → (s.word == 0) ≡ f → (s.word == k + 1) ≡ g → Makes listed (w.Checks k)
     go true g e h = good true g e h refl (inl (eqb-true s.word 0 e))
@@ -167,7 +168,7 @@ module _ (s : State) (t : ℕ) (call : CondvarCall) (taken : ℕ) (fits : Fits s
 
   retreats : (listed : Bool) → Here listed w.Retreats → Makes listed w.Retreats
   retreats listed here = none listed w.Retreats here (now listed w.Retreats) listed (w.Ends _) refl refl refl refl tt
-      refl (inl (refl, refl)) (leaves listed w.Retreats here refl)
+      refl (inl (refl, refl, refl)) (leaves listed w.Retreats here refl)
 
   appends : (k : ℕ) (listed : Bool) → Here listed (w.Appends k) → Makes listed (w.Appends k)
   appends k listed here =
@@ -180,34 +181,34 @@ module _ (s : State) (t : ℕ) (call : CondvarCall) (taken : ℕ) (fits : Fits s
             (phases_one s u t c (Some d) fits here refl),
       )
       (knows listed (w.Appends k) here).1 (inside listed (w.Appends k) here)
-      (inr (sym (inside listed (w.Appends k) here))) (λ x ne. refl)
+      (inr (alone_in s t (sym (inside listed (w.Appends k) here)))) (λ x ne. refl)
 
   shows : (k : ℕ) (listed : Bool) → Here listed (w.Shows k) → Makes listed (w.Shows k)
   shows k listed here = plain listed (w.Shows k) here (now listed (w.Shows k)) listed (w.Rests k) refl (rules.Show k)
       refl refl tt (shown_is k (knows listed (w.Shows k) here).1.1) refl
-      (knows listed (w.Shows k) here).1.0 (inside listed (w.Shows k) here) (inr (sym (inside listed (w.Shows k) here)))
+      (knows listed (w.Shows k) here).1.0 (inside listed (w.Shows k) here) (inr (alone_in s t (sym (inside listed (w.Shows k) here))))
       (λ x ne. refl)
 
   rests : (k : ℕ) → Here true (w.Rests k) → Makes true (w.Rests k)
   rests k here = plain true (w.Rests k) here (now true (w.Rests k)) true (w.Unlocks k) refl (rules.Rest k) refl refl tt
-      refl refl tt refl (inl (refl, refl)) (leaves true (w.Rests k) here refl)
+      refl refl tt refl (inl (refl, refl, refl)) (leaves true (w.Rests k) here refl)
 
   expires : (k : ℕ) → Here true (w.Expires k) → s.inside ≡ None → Makes true (w.Expires k)
   expires k here free = plain true (w.Expires k) here (now true (w.Expires k)) true (w.Quits k) refl (rules.Reenter k)
       refl refl (none_inside s fits free) refl refl
-      (knows true (w.Expires k) here).1 (sym (it_is t)) (inl (refl, refl)) (comes free)
+      (knows true (w.Expires k) here).1 (sym (it_is t)) (inr (λ x ne. ap (λ o. is_the o x) free)) (comes free)
 
   forgets : (listed : Bool) → Here listed w.Forgets → Makes listed w.Forgets
   forgets listed here =
       let know = (knows listed w.Forgets here).1 in
       plain listed w.Forgets here (now listed w.Forgets) listed (w.Leaves true) refl (rules.Forget rules.Leaves) refl
       refl (inl refl, sym (waiters s fits) ∙ know.1) refl refl
-      know.0 (inside listed w.Forgets here) (inr (sym (inside listed w.Forgets here))) (λ x ne. refl)
+      know.0 (inside listed w.Forgets here) (inr (alone_in s t (sym (inside listed w.Forgets here)))) (λ x ne. refl)
 
   goes : (listed : Bool) → Here listed (w.Leaves true) → Makes listed (w.Leaves true)
   goes listed here = plain listed (w.Leaves true) here (now listed (w.Leaves true)) listed (w.Locks true) refl rules.Go
       refl refl tt refl refl
-      (knows listed (w.Leaves true) here).1 refl (inl (refl, refl)) (leaves listed (w.Leaves true) here refl)
+      (knows listed (w.Leaves true) here).1 refl (inl (refl, refl, refl)) (leaves listed (w.Leaves true) here refl)
 
   -- it takes itself off the list
   module _ (k : ℕ) (here : Here true (w.Quits k)) where
@@ -270,7 +271,7 @@ module _ (s : State) (t : ℕ) (call : CondvarCall) (taken : ℕ) (fits : Fits s
             ),
           )
           (subst (WaitKnows (is_timed call) false (length r)) (sym is) (knows true (w.Quits k) here).1)
-          (ap (wait_is_inside false) is ∙ its) (inr (sym its)) (λ x ne. refl))
+          (ap (wait_is_inside false) is ∙ its) (inr (alone_in s t (sym its))) (λ x ne. refl))
       by false e =
           let is : q ≡ w.Forgets = ap (λ b. next_phase (w.Quits k) (seen.Quit true (not b))) e in
           let steps : quitting k (Some i) (is_left r) ≡ rules.Quit k i ∷ [] = ap (quitting k (Some i)) e in
@@ -282,7 +283,7 @@ module _ (s : State) (t : ℕ) (call : CondvarCall) (taken : ℕ) (fits : Fits s
           (sits true (w.Quits k) here u false q refl (rules.Quit k i ∷ [])
           ((stands, at), ap (λ (ps : List Phase). record (variable u) { phases = ps }) phases)
           (subst (WaitKnows (is_timed call) false (length r)) (sym is) ((knows true (w.Quits k) here).1, none_left))
-          (ap (wait_is_inside false) is ∙ its) (inr (sym its)) (λ x ne. refl))
+          (ap (wait_is_inside false) is ∙ its) (inr (alone_in s t (sym its))) (λ x ne. refl))
 
     quits : Makes true (w.Quits k)
     quits =
@@ -298,7 +299,7 @@ module _ (s : State) (t : ℕ) (call : CondvarCall) (taken : ℕ) (fits : Fits s
       record {
         lawful = run;
         fits = fits_one s (now listed (w.Ends answer)) t c None fits here refl [] run (λ d e. absurd (none-some d e))
-            (inl (refl, refl)) (λ x ne. refl)
+            (inl (refl, refl, refl)) (λ x ne. refl)
             (λ h. absurd (let x : false ≡ true = inside listed (w.Ends answer) here ∙ h in cc));
       }
 

@@ -14,7 +14,7 @@ use Rattle.parking_lot_machine_sides.specs.Once.OnceCalls.{wish_of}
 use Rattle.parking_lot_machine_sides.specs.Once.OnceFits.{Fits, Sits, is_the, lies}
 use Rattle.parking_lot_machine_sides.specs.Once.OnceSteps.{IsLawful}
 use Rattle.parking_lot_machine_sides.specs.declared.once.open_call.OpenCall.{OpenCall}
-use Rattle.parking_lot_machine_sides.specs.Once.Onces.{Onces, call_in, call_at, role_in}
+use Rattle.parking_lot_machine_sides.specs.Once.Onces.{Onces, call_in, call_at, role_in, bucket_of, inside_at}
 use Rattle.parking_lot_machine_sides.proofs.OnceFacts.Acting.{IsThere, once_elsewhere, role_here, roles_one, same_once}
 use Rattle.parking_lot_machine_sides.proofs.OnceFacts.Owning.{the_one}
 use Rattle.std.specs.Option.{option_and_then}
@@ -92,7 +92,7 @@ module _ (s : Onces) (t i : ℕ) (call : OnceCall) (fits : Fits s) (may : May s 
     there = once_elsewhere i s u elsewhere;
   }
 
-  its_sits : Sits (length s.words) t d (list_of s.wakes t) (list_of s.waiting i) s.inside
+  its_sits : Sits (length s.words) t d (list_of s.wakes t) (list_of s.waiting i) (inside_at s i)
   its_sits = record {
     low = may.there;
     goes = inl refl;
@@ -100,22 +100,24 @@ module _ (s : Onces) (t i : ℕ) (call : OnceCall) (fits : Fits s) (may : May s 
     taken = ap (λ (us : List ℕ). length us) (fits.idle t may.free);
     knows = tt;
     few = omega arith;
-    section = sym (outside (is_the s.inside t) refl);
+    section = sym (outside (is_the (inside_at s i) t) refl);
     awake = λ up. refl;
   }
     where
-      outside : (b : Bool) → is_the s.inside t ≡ b → is_the s.inside t ≡ false
+      outside : (b : Bool) → is_the (inside_at s i) t ≡ b → is_the (inside_at s i) t ≡ false
       outside false e = e
-      outside true e = absurd (let x = fits.inside t (the_one s.inside t e) in none-some x.0 (sym may.free ∙ x.1))
+      outside true e = absurd (let x = fits.inside (bucket_of s i) t (the_one (inside_at s i) t e) in
+          none-some x.0 (sym may.free ∙ x.1))
 
   pub begins_fits : Fits u
   begins_fits = record {
     sound = sound_all t i (Some (Alone (Begin (wish_of call)))) s u fits begins_so;
     words = fits.words;
     seated = λ x e at. elim (cases_eq x t) [
-      | inl eq ↦ subst (λ (k : ℕ). Sits (length s.words) k e (list_of s.wakes k) (list_of s.waiting e.once) s.inside)
-          (sym eq)
-          (subst (λ (y : OpenCall). Sits (length s.words) t y (list_of s.wakes t) (list_of s.waiting y.once) s.inside)
+      | inl eq ↦ subst (λ (k : ℕ). Sits (length s.words) k e (list_of s.wakes k) (list_of s.waiting e.once)
+          (inside_at s e.once)) (sym eq)
+          (subst (λ (y : OpenCall). Sits (length s.words) t y (list_of s.wakes t) (list_of s.waiting y.once)
+          (inside_at s y.once))
           (same_Some d e (sym now ∙ ap (call_at u) (sym eq) ∙ at)) its_sits)
       | inr ne ↦ fits.seated x e (sym (others x ne) ∙ at)
     ];
@@ -123,10 +125,12 @@ module _ (s : Onces) (t i : ℕ) (call : OnceCall) (fits : Fits s) (may : May s 
       | inl eq ↦ absurd (none-some d (sym at ∙ ap (call_at u) eq ∙ now))
       | inr ne ↦ fits.idle x (sym (others x ne) ∙ at)
     ];
-    inside = λ x at. elim (cases_eq x t) [
-      | inl eq ↦ (d, ap (call_at u) eq ∙ now)
-      | inr ne ↦ let f = fits.inside x at in (f.0, others x ne ∙ f.1)
+    inside = λ b x at. elim (cases_eq x t) [
+      | inl eq ↦ let f = fits.inside b x at in absurd
+          (none-some f.0 (sym may.free ∙ ap (call_at s) (sym eq) ∙ f.1))
+      | inr ne ↦ let f = fits.inside b x at in (f.0, others x ne ∙ f.1, f.2)
     ];
+    buckets = fits.buckets;
     room = omega (arith, fits.room, count_by-set lies s.calls t None (Some d) (flat s.calls t may.low may.free));
     small = omega (arith, fits.small, length-set s.calls t (Some d));
   }

@@ -3,6 +3,7 @@ use Rattle.std.proofs.Common.{◌≡◌, ℕ, inl, inr, Bool, true, false, cond,
 use Rattle.std.proofs.Common.{ap, ◌∙◌, subst, arith}
 use Rattle.std.proofs.lemmas.List.{nil_from_length}
 use Rattle.std.proofs.lemmas.Option.{none-some, same_Some}
+use Rattle.parking_lot_core_model.specs.Buckets.{slot}
 use Rattle.parking_lot_protocol.specs.declared.act.Act.TheVariants as act
 use Rattle.parking_lot_protocol.specs.declared.act.ActResult.{ActResult}
 use Rattle.parking_lot_protocol.specs.declared.act.ActResult.TheVariants as seen
@@ -30,7 +31,8 @@ use Rattle.parking_lot_machine_sides.specs.Once.OnceFits.{Fits, Sits, GoesOn, is
 use Rattle.parking_lot_machine_sides.specs.Once.OnceFits.{taken_count}
 use Rattle.parking_lot_machine_sides.specs.Once.OnceSteps.{IsLawful, given_by, move_by, move_of}
 use Rattle.parking_lot_machine_sides.specs.declared.once.open_call.OpenCall.{OpenCall}
-use Rattle.parking_lot_machine_sides.specs.Once.Onces.{Onces, word_at, call_at, known_of}
+use Rattle.parking_lot_machine_sides.specs.Once.Onces.{Onces, word_at, call_at, known_of, inside_at}
+use Rattle.parking_lot_machine_sides.proofs.OnceFacts.Sections.{stands_in}
 use Rattle.parking_lot_machine_sides.proofs.OnceFacts.Acting.{role_here}
 use Rattle.parking_lot_machine_sides.proofs.OnceFacts.Owning.{One, fits_one, is_one, makes_one, stays_one}
 use Rattle.parking_lot_machine_sides.specs.Once.OnceActs.{ran, ended_by, ended, with_call}
@@ -57,14 +59,14 @@ module _ (s : Onces) (t : ℕ) (c : OpenCall) (fits : Fits s) (here : call_at s 
   abbrev us : List ℕ
   us = list_of s.wakes t
 
-  abbrev sits : Sits (length s.words) t c us (list_of s.waiting c.once) s.inside
+  abbrev sits : Sits (length s.words) t c us (list_of s.waiting c.once) (inside_at s c.once)
   sits = fits.seated t c here
 
   abbrev with : Option OpenCall → Onces
   with o = with_call s t o
 
   with_one : (o : Option OpenCall) → One s (with o) t c.once o
-  with_one o = record { calls = refl; wakes = refl; onces = refl; words = λ j ne. refl; waiting = λ j ne. refl }
+  with_one o = record { calls = refl; wakes = refl; onces = refl; words = λ j ne. refl; waiting = λ j ne. refl; buckets = refl }
 
   -- it is over
   over_fits : (step : Option Step) → IsLawful t c.once step s (with None) → taken_count c.core.phase ≡ 0
@@ -74,8 +76,11 @@ module _ (s : Onces) (t : ℕ) (c : OpenCall) (fits : Fits s) (here : call_at s 
       (λ d is. absurd (none-some d is))
       (λ e. nil_from_length us (sits.taken ∙ none))
       (inl refl)
-      (λ x ne. refl)
-      (λ e. absurd (let yes : true ≡ false = sym (is_one s.inside t e) ∙ sym sits.section ∙ out in cc))
+      (λ x ne b. refl)
+      (λ b e. absurd
+      (let yes : true ≡ false =
+      sym (is_one (inside_at s c.once) t (ap (slot s.inside) (stands_in s t c fits here b e) ∙ e)) ∙ sym sits.section
+      ∙ out in cc))
       (omega (arith, ap {B = ℕ} (λ b. cond b 1 0) away))
 
   over_stays : (p : OncePhase) → c.core.phase ≡ p → role c.taker (known_of us c) p ≡ Idle → taken_count p ≡ 0
@@ -117,17 +122,18 @@ module _ (s : Onces) (t : ℕ) (c : OpenCall) (fits : Fits s) (here : call_at s 
         named = refl;
         lawful = lawful;
         fits = fits_one s (with (Some d)) t c (Some d) fits here one refl (Some (Alone k)) lawful (fits.words c.once)
-            (λ x is. subst (λ (y : OpenCall). Sits (length s.words) t y us (list_of s.waiting y.once) s.inside)
+            (λ x is. subst (λ (y : OpenCall). Sits (length s.words) t y us (list_of s.waiting y.once)
+            (inside_at s y.once))
             (same_Some d x is) (ran_sits before e))
             (λ none. absurd (none-some d (sym none)))
             (inl refl)
-            (λ x ne. refl)
-            (λ at. (d, refl))
+            (λ x ne b. refl)
+            (λ b at. (d, refl, stands_in s t c fits here b at))
             (omega (arith, ap {B = ℕ} (λ p. cond (is_listed p) 1 0) e));
       }
     where
       ran_sits : (before : OnceState) → c.core.phase ≡ Ends (end.Runs before) → Sits (length s.words) t (ran c before)
-          us (list_of s.waiting c.once) s.inside
+          us (list_of s.waiting c.once) (inside_at s c.once)
       ran_sits before e = record {
         low = sits.low;
         goes = went_so before c.call c.before (subst (GoesOn c.call c.before) e sits.goes);

@@ -25,7 +25,8 @@ use Rattle.parking_lot_machine_sides.specs.Once.OnceFits.{Fits, Sits, Knows, is_
 use Rattle.parking_lot_machine_sides.specs.Once.OnceFits.{lies, taken_count, rounds_of}
 use Rattle.parking_lot_machine_sides.specs.Once.OnceSteps.{IsLawful, given_by, move_by, move_of}
 use Rattle.parking_lot_machine_sides.specs.declared.once.open_call.OpenCall.{OpenCall}
-use Rattle.parking_lot_machine_sides.specs.Once.Onces.{Onces, word_at, call_at, known_of, word_of}
+use Rattle.parking_lot_machine_sides.specs.Once.Onces.{Onces, word_at, call_at, known_of, word_of, inside_at}
+use Rattle.parking_lot_machine_sides.proofs.OnceFacts.Sections.{stands_in}
 use Rattle.parking_lot_machine_sides.proofs.OnceFacts.Acting.{role_here}
 use Rattle.parking_lot_machine_sides.proofs.OnceFacts.Listing.{short}
 use Rattle.parking_lot_machine_sides.proofs.OnceFacts.Owning.{One, fits_one, stays_one}
@@ -63,7 +64,7 @@ module _ (s : Onces) (t : ℕ) (c : OpenCall) (fits : Fits s) (here : call_at s 
   abbrev queue : List ℕ
   queue = list_of s.waiting c.once
 
-  abbrev sits : Sits (length s.words) t c us queue s.inside
+  abbrev sits : Sits (length s.words) t c us queue (inside_at s c.once)
   sits = fits.seated t c here
 
   module _ (well : Bool) (taken : ℕ) (e : c.core.phase ≡ Scans well taken) (none : queue ≡ []) where
@@ -80,7 +81,14 @@ module _ (s : Onces) (t : ℕ) (c : OpenCall) (fits : Fits s) (here : call_at s 
     f = ap (λ p. next_phase p (seen.Took None false)) e
 
     one : One s u t c.once (Some d)
-    one = record { calls = refl; wakes = refl; onces = refl; words = λ j ne. refl; waiting = λ j ne. refl }
+    one = record {
+      calls = refl;
+      wakes = refl;
+      onces = refl;
+      words = λ j ne. refl;
+      waiting = λ j ne. refl;
+      buckets = refl;
+    }
 
     few : length us < 2 ^ 32 - 1
     few = omega (arith, short t s.wakes, fits.room, count_by-le-length lies s.calls, fits.small)
@@ -90,7 +98,7 @@ module _ (s : Onces) (t : ℕ) (c : OpenCall) (fits : Fits s) (here : call_at s 
     followed = follows (Scans well taken) (seen.Took None false) (known_of us c) (word_of (word_at s c.once)) tt
         (fits.sound c.once).fits.bit (sits.taken ∙ ap taken_count e) few tt
 
-    empty_sits : Sits (length s.words) t d us queue s.inside
+    empty_sits : Sits (length s.words) t d us queue (inside_at s c.once)
     empty_sits = record {
       low = sits.low;
       goes = goes_so c.call c.before c.core.phase (seen.Took None false) 0 sits.goes
@@ -113,12 +121,13 @@ module _ (s : Onces) (t : ℕ) (c : OpenCall) (fits : Fits s) (here : call_at s 
           named = refl;
           lawful = lawful;
           fits = fits_one s u t c (Some d) fits here one refl None lawful (fits.words c.once)
-              (λ x is. subst (λ (y : OpenCall). Sits (length s.words) t y us (list_of s.waiting y.once) s.inside)
+              (λ x is. subst (λ (y : OpenCall). Sits (length s.words) t y us (list_of s.waiting y.once)
+              (inside_at s y.once))
               (same_Some d x is) empty_sits)
               (λ no. absurd (none-some d (sym no)))
               (inl refl)
-              (λ x ne. refl)
-              (λ at. (d, refl))
+              (λ x ne b. refl)
+              (λ b at. (d, refl, stands_in s t c fits here b at))
               (omega (arith, ap {B = ℕ} (λ p. cond (is_listed p) 1 0) e, ap {B = ℕ} (λ p. cond (is_listed p) 1 0) f));
         }
 

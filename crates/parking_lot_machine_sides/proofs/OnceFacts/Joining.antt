@@ -22,7 +22,8 @@ use Rattle.parking_lot_machine_sides.specs.Once.OnceFits.{Fits, Sits, Knows, is_
 use Rattle.parking_lot_machine_sides.specs.Once.OnceFits.{taken_count, rounds_of}
 use Rattle.parking_lot_machine_sides.specs.Once.OnceSteps.{IsLawful, given_by, move_by, move_of}
 use Rattle.parking_lot_machine_sides.specs.declared.once.open_call.OpenCall.{OpenCall}
-use Rattle.parking_lot_machine_sides.specs.Once.Onces.{Onces, word_at, call_at, known_of}
+use Rattle.parking_lot_machine_sides.specs.Once.Onces.{Onces, word_at, call_at, known_of, inside_at}
+use Rattle.parking_lot_machine_sides.proofs.OnceFacts.Sections.{stands_in}
 use Rattle.parking_lot_machine_sides.proofs.OnceFacts.Acting.{role_here}
 use Rattle.parking_lot_machine_sides.proofs.OnceFacts.Owning.{One, fits_one}
 use Rattle.parking_lot_core_model.specs.declared.parking.ParkToken.{ParkToken}
@@ -63,7 +64,7 @@ module _ (s : Onces) (t : ℕ) (c : OpenCall) (fits : Fits s) (here : call_at s 
   abbrev queue : List ℕ
   queue = list_of s.waiting c.once
 
-  abbrev sits : Sits (length s.words) t c us queue s.inside
+  abbrev sits : Sits (length s.words) t c us queue (inside_at s c.once)
   sits = fits.seated t c here
 
   -- IT JOINS
@@ -82,12 +83,13 @@ module _ (s : Onces) (t : ℕ) (c : OpenCall) (fits : Fits s) (here : call_at s 
       onces = refl;
       words = λ j ne. refl;
       waiting = λ j ne. push_other s.waiting c.once t j ne;
+      buckets = refl;
     }
 
     f : d.core.phase ≡ Rests wish
     f = ap (λ p. next_phase p seen.Made) e
 
-    joined_sits : Sits (length s.words) t d us (list_of u.waiting c.once) s.inside
+    joined_sits : Sits (length s.words) t d us (list_of u.waiting c.once) (inside_at s c.once)
     joined_sits = record {
       low = sits.low;
       goes = goes_so c.call c.before c.core.phase seen.Made 0 sits.goes
@@ -110,12 +112,13 @@ module _ (s : Onces) (t : ℕ) (c : OpenCall) (fits : Fits s) (here : call_at s 
           named = refl;
           lawful = lawful;
           fits = fits_one s u t c (Some d) fits here joined_one refl (Some (Join wish)) lawful (fits.words c.once)
-              (λ x is. subst (λ (y : OpenCall). Sits (length s.words) t y us (list_of u.waiting y.once) s.inside)
+              (λ x is. subst (λ (y : OpenCall). Sits (length s.words) t y us (list_of u.waiting y.once)
+              (inside_at s y.once))
               (same_Some d x is) joined_sits)
               (λ none. absurd (none-some d (sym none)))
               (inr (sym sits.section ∙ ap is_in_section e))
-              (λ x ne. refl)
-              (λ at. (d, refl))
+              (λ x ne b. refl)
+              (λ b at. (d, refl, stands_in s t c fits here b at))
               (omega (
                 arith,
                 length_push s.waiting c.once t,

@@ -1,10 +1,11 @@
 -- An act of a thread and its once alone is a step of the rules, or none, and keeps what holds of the machine.
 use Rattle.std.proofs.Common.{◌≡◌, ◌≢◌, ℕ, ◌-◌, ◌^◌, ◌<◌, ◌≤◌, inl, inr, Bool, true, false, cond, ◌==◌, ◌&&◌, List, []}
-use Rattle.std.proofs.Common.{◌∷◌, length, Option, Some, None, refl, sym, ap, ◌∙◌, subst, arith}
-use Rattle.std.proofs.lemmas.Bool.{ne_eqb}
+use Rattle.std.proofs.Common.{◌∷◌, length, Option, Some, None, refl, sym, ap, ◌∙◌, subst, arith, eqb-true}
+use Rattle.std.proofs.lemmas.Bool.{cases_eq, ne_eqb}
 use Rattle.std.proofs.lemmas.List.{length-set, nil_from_length}
 use Rattle.std.proofs.lemmas.List.Sums.{count_by-le-length}
 use Rattle.std.proofs.lemmas.Option.{none-some, same_Some}
+use Rattle.parking_lot_core_model.specs.Buckets.{slot}
 use Rattle.parking_lot_protocol.specs.declared.act.Act.{Act}
 use Rattle.parking_lot_protocol.specs.declared.act.Act.TheVariants as act
 use Rattle.parking_lot_protocol.specs.declared.act.SectionAct.TheVariants as section
@@ -44,11 +45,13 @@ use Rattle.parking_lot_machine_sides.specs.Once.OnceSteps.{IsActOfItsOwn, IsEntr
 use Rattle.parking_lot_machine_sides.specs.Once.OnceSteps.{move_by, move_of}
 use Rattle.parking_lot_machine_sides.specs.declared.once.open_call.OpenCall.{OpenCall}
 use Rattle.parking_lot_machine_sides.specs.Once.Onces.{Onces, word_at, call_at, known_of, role_in, role_at, word_of}
-use Rattle.parking_lot_machine_sides.specs.Once.Onces.{once_at}
+use Rattle.parking_lot_machine_sides.specs.Once.Onces.{bucket_of, inside_at, once_at}
 use Rattle.parking_lot_machine_sides.proofs.OnceFacts.Acting.{plays, role_here, shows_word, word_here, word_elsewhere}
 use Rattle.parking_lot_rules.proofs.Everybody.{was-all}
 use Rattle.parking_lot_machine_sides.proofs.OnceFacts.Listing.{short}
 use Rattle.parking_lot_machine_sides.proofs.OnceFacts.Phases.{Led, in_after, leads, leaves, shows}
+use Rattle.parking_lot_machine_sides.proofs.OnceFacts.Sections.{after_there, as_many, now_inside, same_bucket}
+use Rattle.parking_lot_machine_sides.proofs.OnceFacts.Sections.{stands_in, still_inside}
 use Rattle.parking_lot_machine_sides.proofs.OnceFacts.Owning.{One, fits_one, makes_one, not_another, stays_one}
 
 -- THE PHASE
@@ -144,20 +147,22 @@ unfolding weight
 idle_inside = refl
 
 -- where no section is open nobody is inside
-pub none_inside : (s : Onces) (i : ℕ) → Fits s → s.inside ≡ None → total Inside (once_at s i).roles ≡ 0
+pub none_inside : (s : Onces) (i : ℕ) → Fits s → inside_at s i ≡ None → total Inside (once_at s i).roles ≡ 0
 none_inside s i fits e = total-none (weight Inside) (once_at s i).roles
     (λ x r at. ap (weight Inside) (was-all (role_at s i) (length s.calls) x r at) ∙ go x (call_at s x) refl)
   where
-    by_once : (x : ℕ) (c : OpenCall) → call_at s x ≡ Some c → (b : Bool)
+    by_once : (x : ℕ) (c : OpenCall) → call_at s x ≡ Some c → (b : Bool) → (c.once == i) ≡ b
         → weight Inside (cond b (plays c (list_of s.wakes x)) Idle) ≡ 0
-    by_once x c at true = inside_weighs c.taker (known_of (list_of s.wakes x) c) c.core.phase
-        ∙ ap bit ((fits.seated x c at).section ∙ ap (λ o. is_the o x) e)
-    by_once x c at false = idle_inside
+    by_once x c at true same = inside_weighs c.taker (known_of (list_of s.wakes x) c) c.core.phase
+        ∙ ap bit ((fits.seated x c at).section ∙ ap (λ (j : ℕ). is_the (inside_at s j) x) (eqb-true c.once i same)
+        ∙ ap (λ o. is_the o x) e)
+    by_once x c at false same = idle_inside
 
     go : (x : ℕ) (o : Option OpenCall) → call_at s x ≡ o → weight Inside (role_in i (list_of s.wakes x) (call_at s x))
         ≡ 0
     go x None at = ap (λ o. weight Inside (role_in i (list_of s.wakes x) o)) at ∙ idle_inside
     go x (Some c) at = ap (λ o. weight Inside (role_in i (list_of s.wakes x) o)) at ∙ by_once x c at (c.once == i)
+        refl
 
 -- what a step of the rules asks of all threads
 abbrev Needs : Plain → (Class → ℕ) → Type 0
@@ -264,7 +269,7 @@ pub is_number : (n : ℕ) (w : Word) → w.parked ≤ 1 → n ≡ number w → n
 is_number n w le e = ap (λ x. number (word_of x)) e ∙ ap number (shows_word w le) ∙ sym e
 
 -- other threads are inside as before
-pub insides : (a : Act) (t : ℕ) (inside : Option ℕ) (x : ℕ) → x ≢ t → IsEntry a (inside ≡ None)
+insides : (a : Act) (t : ℕ) (inside : Option ℕ) (x : ℕ) → x ≢ t → IsEntry a (inside ≡ None)
     → (a ≡ act.Section section.Leave → is_the inside t ≡ true) → is_the (inside_after a t inside) x ≡ is_the inside x
 insides (act.Enter key) t inside x ne free leave = ne_eqb t x (λ e. ne (sym e)) ∙ sym (ap (λ o. is_the o x) free)
 insides (act.Section section.Leave) t inside x ne free leave = sym (not_another inside t x ne (leave refl))
@@ -299,7 +304,7 @@ entry_needs (act.Load) X Y f x = tt
 entry_needs a X Y f x = tt
 
 module _ (s : Onces) (t : ℕ) (c : OpenCall) (fits : Fits s) (here : call_at s t ≡ Some c)
-    (own : IsActOfItsOwn (act_of c.core.phase)) (free : IsEntry (act_of c.core.phase) (s.inside ≡ None)) where
+    (own : IsActOfItsOwn (act_of c.core.phase)) (free : IsEntry (act_of c.core.phase) (inside_at s c.once ≡ None)) where
   abbrev p : OncePhase
   p = c.core.phase
 
@@ -318,7 +323,7 @@ module _ (s : Onces) (t : ℕ) (c : OpenCall) (fits : Fits s) (here : call_at s 
   abbrev taken : List ℕ
   taken = list_of s.wakes t
 
-  sits : Sits (length s.words) t c taken (list_of s.waiting c.once) s.inside
+  sits : Sits (length s.words) t c taken (list_of s.waiting c.once) (inside_at s c.once)
   sits = fits.seated t c here
 
   led : Led (act_of p) p (next_phase p given)
@@ -331,6 +336,7 @@ module _ (s : Onces) (t : ℕ) (c : OpenCall) (fits : Fits s) (here : call_at s 
     onces = length-set s.words c.once (does.written (act_of p) n);
     words = λ j ne. word_elsewhere s.words c.once j (does.written (act_of p) n) ne;
     waiting = λ j ne. refl;
+    buckets = as_many s t c;
   }
 
   its_word : word_at u c.once ≡ does.written (act_of p) n
@@ -362,12 +368,12 @@ module _ (s : Onces) (t : ℕ) (c : OpenCall) (fits : Fits s) (here : call_at s 
   needed : NeedsOf (move (known_of taken c) p given) (λ x. total x (once_at s c.once).roles)
   needed = needs_so (known_of taken c) p given n (list_of s.waiting c.once) (λ x. total x (once_at s c.once).roles) own
       (shows (act_of p) n own)
-      (entry_needs (act_of p) (s.inside ≡ None) (total Inside (once_at s c.once).roles ≡ 0) (none_inside s c.once fits)
+      (entry_needs (act_of p) (inside_at s c.once ≡ None) (total Inside (once_at s c.once).roles ≡ 0) (none_inside s c.once fits)
       free)
       sits.knows
       (λ e. sym (fits.sound c.once).listed.count ∙ ap (λ (q : List ℕ). length q) e)
 
-  own_sits : Sits (length u.words) t d taken (list_of s.waiting c.once) u.inside
+  own_sits : Sits (length u.words) t d taken (list_of s.waiting c.once) (inside_at u c.once)
   own_sits = record {
     low = omega (arith, sits.low, own_one.onces);
     goes = goes_so c.call c.before p given n sits.goes (shows (act_of p) n own);
@@ -375,19 +381,38 @@ module _ (s : Onces) (t : ℕ) (c : OpenCall) (fits : Fits s) (here : call_at s 
     taken = sits.taken ∙ sym led.taken;
     knows = led.knows (list_of s.waiting c.once);
     few = led.few sits.few;
-    section = led.section ∙ in_after (act_of p) t s.inside (is_in_section p) sits.section;
+    section = led.section ∙ in_after (act_of p) t (inside_at s c.once) (is_in_section p) sits.section
+        ∙ sym (ap (λ o. is_the o t) (now_inside s t c fits.buckets));
     awake = λ e. awake;
   }
+
+  -- other threads are in their buckets as before, and it is in that of its once at most
+  others_inside : (x : ℕ) → x ≢ t → (b : ℕ) → is_the (slot u.inside b) x ≡ is_the (slot s.inside b) x
+  others_inside x ne b = elim (cases_eq b (bucket_of s c.once)) [
+    | inl e ↦ ap (λ (k : ℕ). is_the (slot u.inside k) x) e ∙ ap (λ o. is_the o x) (after_there s t c fits.buckets)
+        ∙ insides (act_of p) t (inside_at s c.once) x ne free (λ f. sym sits.section ∙ leaves_section p f)
+        ∙ ap (λ (k : ℕ). is_the (slot s.inside k) x) (sym e)
+    | inr far ↦ ap (λ o. is_the o x) (still_inside s t c b far)
+  ]
+
+  its_bucket : (b : ℕ) → slot u.inside b ≡ Some t → (e : OpenCall) × (Some d ≡ Some e) × (bucket_of u e.once ≡ b)
+  its_bucket b at = elim (cases_eq b (bucket_of s c.once)) [
+    | inl e ↦ (d, refl, same_bucket s t c c.once ∙ sym e)
+    | inr far ↦ (
+      d,
+      refl,
+      same_bucket s t c c.once ∙ stands_in s t c fits here b (sym (still_inside s t c b far) ∙ at),
+    )
+  ]
 
   own_fits : (step : Option Step) → IsLawful t c.once step s u → number (word_of (word_at u c.once)) ≡ word_at u c.once
       → Fits u
   own_fits step lawful word = fits_one s u t c (Some d) fits here own_one refl step lawful word
-      (λ e is. subst (λ (x : OpenCall). Sits (length u.words) t x taken (list_of u.waiting x.once) u.inside)
+      (λ e is. subst (λ (x : OpenCall). Sits (length u.words) t x taken (list_of u.waiting x.once) (inside_at u x.once))
       (same_Some d e is) own_sits)
       (λ e. absurd (none-some d (sym e)))
       (inl refl)
-      (λ x ne. insides (act_of p) t s.inside x ne free (λ e. sym sits.section ∙ leaves_section p e))
-      (λ e. (d, refl))
+      others_inside its_bucket
       (omega (arith, ap {B = ℕ} (λ b. cond b 1 0) led.lies))
 
   by_move : (m : Move) → move (known_of taken c) p given ≡ m → IsMove m (known_of taken c) p (next_phase p given)

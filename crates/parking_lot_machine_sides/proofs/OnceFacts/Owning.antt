@@ -1,10 +1,11 @@
 -- A step that changes one thread's call alone keeps what holds of the machine; and an act of a thread and its once
 -- alone is such a step.
-use Rattle.std.proofs.Common.{◌≡◌, ◌≢◌, ℕ, ◌+◌, ◌<◌, ◌⊎◌, inl, inr, true, false, cond, List, [], ◌∷◌, ◌++◌, length}
+use Rattle.std.proofs.Common.{◌≡◌, ◌≢◌, ℕ, ◌+◌, ◌*◌, ◌%◌, ◌<◌, ◌⊎◌, inl, inr, true, false, cond, List, [], ◌∷◌, ◌++◌, length}
 use Rattle.std.proofs.Common.{Option, Some, None, slice_set, refl, sym, ap, ◌∙◌, subst, arith, eqb-true, eq-eqb}
 use Rattle.std.proofs.Common.{count_by}
 use Rattle.std.proofs.lemmas.Bool.{cases_eq, ne_eqb}
 use Rattle.std.proofs.lemmas.List.{length-set}
+use Rattle.parking_lot_core_model.specs.Buckets.{slot as bucket}
 use Rattle.parking_lot_core_model.proofs.Numbers.{count_by-set}
 use Rattle.parking_lot_rules.specs.declared.once.wish.Wish.{Wish}
 use Rattle.parking_lot_rules.specs.Once.Once.{Checked, Joined, Step, Plain, Alone, Join, May, written, from, to, total}
@@ -16,7 +17,7 @@ use Rattle.parking_lot_machine_sides.specs.Once.Entries.{list_of}
 use Rattle.parking_lot_machine_sides.specs.Once.OnceFits.{Fits, Sits, Knows, is_in_section, is_the, lies}
 use Rattle.parking_lot_machine_sides.specs.Once.OnceSteps.{IsLawful}
 use Rattle.parking_lot_machine_sides.specs.Once.Onces.{OpenCall, Onces, word_at, call_in, call_at, role_in, role_at}
-use Rattle.parking_lot_machine_sides.specs.Once.Onces.{word_of, once_at}
+use Rattle.parking_lot_machine_sides.specs.Once.Onces.{bucket_of, inside_at, once_at, word_of}
 use Rattle.parking_lot_machine_sides.proofs.OnceFacts.Acting.{IsThere, Elsewhere, call_here, call_elsewhere, within}
 use Rattle.parking_lot_machine_sides.proofs.OnceFacts.Acting.{once_elsewhere, plays, role_here, role_now, role_same}
 use Rattle.parking_lot_machine_sides.proofs.OnceFacts.Acting.{roles_one, roles_same, same_once, slot, sound_all}
@@ -47,6 +48,7 @@ pub record One (s u : Onces) (t i : ℕ) (o : Option OpenCall) : Type 0 where
   pub onces : length u.words ≡ length s.words
   pub words : (j : ℕ) → j ≢ i → word_at u j ≡ word_at s j
   pub waiting : (j : ℕ) → j ≢ i → list_of u.waiting j ≡ list_of s.waiting j
+  pub buckets : length u.inside ≡ length s.inside
 
 module _ (s u : Onces) (t : ℕ) (c : OpenCall) (o : Option OpenCall) (fits : Fits s) (here : call_at s t ≡ Some c)
     (one : One s u t c.once o) (there : IsThere c.once o) where
@@ -84,9 +86,10 @@ module _ (s u : Onces) (t : ℕ) (c : OpenCall) (o : Option OpenCall) (fits : Fi
 
   -- another sits as before
   other_sits : (x : ℕ) (e : OpenCall) → x ≢ t → (list_of u.waiting c.once ≡ list_of s.waiting c.once)
-      ⊎ (is_the s.inside t ≡ true) → is_the u.inside x ≡ is_the s.inside x
-      → Sits (length s.words) x e (list_of s.wakes x) (list_of s.waiting e.once) s.inside
-      → Sits (length u.words) x e (list_of u.wakes x) (list_of u.waiting e.once) u.inside
+      ⊎ (is_the (inside_at s c.once) t ≡ true)
+      → ((b : ℕ) → is_the (bucket u.inside b) x ≡ is_the (bucket s.inside b) x)
+      → Sits (length s.words) x e (list_of s.wakes x) (list_of s.waiting e.once) (inside_at s e.once)
+      → Sits (length u.words) x e (list_of u.wakes x) (list_of u.waiting e.once) (inside_at u e.once)
   other_sits x e ne quiet same sits = record {
     low = omega (arith, sits.low, one.onces);
     goes = sits.goes;
@@ -97,23 +100,25 @@ module _ (s u : Onces) (t : ℕ) (c : OpenCall) (o : Option OpenCall) (fits : Fi
         | inl stays ↦ subst (λ (us : List ℕ). Knows us e.core.phase)
             (sym (ap (list_of u.waiting) eq ∙ stays ∙ ap (list_of s.waiting) (sym eq))) sits.knows
         | inr its ↦ knows_still e.core.phase (list_of s.waiting e.once) (list_of u.waiting e.once)
-            (sits.section ∙ not_another s.inside t x ne its) sits.knows
+            (sits.section ∙ ap (λ (i : ℕ). is_the (inside_at s i) x) eq
+            ∙ not_another (inside_at s c.once) t x ne its) sits.knows
       ]
       | inr apart ↦ subst (λ (us : List ℕ). Knows us e.core.phase) (sym (one.waiting e.once apart)) sits.knows
     ];
     few = sits.few;
-    section = sits.section ∙ sym same;
+    section = sits.section ∙ sym (same (bucket_of s e.once))
+        ∙ sym (ap (λ (n : ℕ). is_the (bucket u.inside (2 * e.once % n)) x) one.buckets);
     awake = sits.awake;
   }
 
   pub fits_one : (step : Option Step) → IsLawful t c.once step s u → number (word_of (word_at u c.once)) ≡ word_at u
       c.once
       → ((d : OpenCall) → o ≡ Some d → Sits (length u.words) t d (list_of s.wakes t) (list_of u.waiting d.once)
-      u.inside)
+      (inside_at u d.once))
       → (o ≡ None → list_of s.wakes t ≡ [])
-      → (list_of u.waiting c.once ≡ list_of s.waiting c.once) ⊎ (is_the s.inside t ≡ true)
-      → ((x : ℕ) → x ≢ t → is_the u.inside x ≡ is_the s.inside x)
-      → (u.inside ≡ Some t → (d : OpenCall) × (o ≡ Some d))
+      → (list_of u.waiting c.once ≡ list_of s.waiting c.once) ⊎ (is_the (inside_at s c.once) t ≡ true)
+      → ((x : ℕ) → x ≢ t → (b : ℕ) → is_the (bucket u.inside b) x ≡ is_the (bucket s.inside b) x)
+      → ((b : ℕ) → bucket u.inside b ≡ Some t → (d : OpenCall) × (o ≡ Some d) × (bucket_of u d.once ≡ b))
       → length u.waiting + cond (lies (Some c)) 1 0 ≡ length s.waiting + cond (lies o) 1 0
       → Fits u
   fits_one step lawful word sits idle quiet insides inside room = record {
@@ -123,9 +128,9 @@ module _ (s u : Onces) (t : ℕ) (c : OpenCall) (o : Option OpenCall) (fits : Fi
       | inr ne ↦ ap (λ n. number (word_of n)) (one.words j ne) ∙ fits.words j ∙ sym (one.words j ne)
     ];
     seated = λ x e at. elim (cases_eq x t) [
-      | inl eq ↦ subst (λ (k : ℕ). Sits (length u.words) k e (list_of u.wakes k) (list_of u.waiting e.once) u.inside)
-          (sym eq)
-          (subst (λ (us : List ℕ). Sits (length u.words) t e us (list_of u.waiting e.once) u.inside)
+      | inl eq ↦ subst (λ (k : ℕ). Sits (length u.words) k e (list_of u.wakes k) (list_of u.waiting e.once)
+          (inside_at u e.once)) (sym eq)
+          (subst (λ (us : List ℕ). Sits (length u.words) t e us (list_of u.waiting e.once) (inside_at u e.once))
           (sym (same_taken t)) (sits e (sym its ∙ ap (call_at u) (sym eq) ∙ at)))
       | inr ne ↦ other_sits x e ne quiet (insides x ne) (fits.seated x e (sym (others x ne) ∙ at))
     ];
@@ -133,11 +138,13 @@ module _ (s u : Onces) (t : ℕ) (c : OpenCall) (o : Option OpenCall) (fits : Fi
       | inl eq ↦ same_taken x ∙ ap (list_of s.wakes) eq ∙ idle (sym its ∙ ap (call_at u) (sym eq) ∙ at)
       | inr ne ↦ same_taken x ∙ fits.idle x (sym (others x ne) ∙ at)
     ];
-    inside = λ x at. elim (cases_eq x t) [
-      | inl eq ↦ let d = inside (at ∙ ap Some eq) in (d.0, ap (call_at u) eq ∙ its ∙ d.1)
-      | inr ne ↦ let d = fits.inside x (the_one s.inside x (sym (insides x ne) ∙ is_one u.inside x at)) in
-          (d.0, others x ne ∙ d.1)
+    inside = λ b x at. elim (cases_eq x t) [
+      | inl eq ↦ let d = inside b (at ∙ ap Some eq) in (d.0, ap (call_at u) eq ∙ its ∙ d.1, d.2)
+      | inr ne ↦ let d = fits.inside b x (the_one (bucket s.inside b) x
+          (sym (insides x ne b) ∙ is_one (bucket u.inside b) x at)) in
+          (d.0, others x ne ∙ d.1, ap (λ (n : ℕ). 2 * d.0.once % n) one.buckets ∙ d.2)
     ];
+    buckets = omega (arith, fits.buckets, one.buckets);
     room = omega (
       arith,
       room,

@@ -1,10 +1,11 @@
 -- A step that changes two calls at one once keeps what holds of the machine.
-use Rattle.std.proofs.Common.{◌≡◌, ◌≢◌, ℕ, ◌+◌, ◌<◌, ◌⊎◌, inl, inr, true, cond, List, length, Option, Some, slice_get}
+use Rattle.std.proofs.Common.{◌≡◌, ◌≢◌, ℕ, ◌+◌, ◌*◌, ◌%◌, ◌<◌, ◌⊎◌, inl, inr, true, cond, List, length, Option, Some, slice_get}
 use Rattle.std.proofs.Common.{slice_set, refl, sym, ap, ◌∙◌, subst, arith, count_by}
 use Rattle.std.proofs.lemmas.Bool.{cases_eq}
 use Rattle.std.proofs.lemmas.List.{length-set}
 use Rattle.std.proofs.lemmas.Option.{none-some, same_Some}
 use Rattle.std.specs.Option.{option_map_or}
+use Rattle.parking_lot_core_model.specs.Buckets.{slot as bucket}
 use Rattle.parking_lot_core_model.proofs.Numbers.{count_by-set}
 use Rattle.parking_lot_rules.specs.Once.Once.{Role, Step, number}
 use Rattle.parking_lot_machine_sides.specs.Once.Entries.{list_of}
@@ -12,7 +13,8 @@ use Rattle.parking_lot_machine_sides.specs.Once.OnceFits.{Fits, Sits, Knows, is_
 use Rattle.parking_lot_machine_sides.specs.Once.OnceSteps.{IsLawful}
 use Rattle.parking_lot_machine_sides.specs.declared.once.open_call.OpenCall.{OpenCall}
 use Rattle.parking_lot_machine_sides.specs.Once.Onces.{Onces, word_at, call_in, call_at, role_in, role_at, word_of}
-use Rattle.parking_lot_machine_sides.specs.Once.Onces.{once_at}
+use Rattle.parking_lot_machine_sides.specs.Once.Onces.{once_at, bucket_of, inside_at}
+use Rattle.parking_lot_machine_sides.proofs.OnceFacts.Sections.{stands_in}
 use Rattle.parking_lot_machine_sides.proofs.OnceFacts.Acting.{IsThere, once_elsewhere, plays, role_here, role_now}
 use Rattle.parking_lot_machine_sides.proofs.OnceFacts.Acting.{within}
 use Rattle.parking_lot_machine_sides.proofs.OnceFacts.Owning.{not_another}
@@ -102,9 +104,9 @@ module _ (s u : Onces) (t v : ℕ) (c b d e : OpenCall) (fits : Fits s) (here : 
       (role_now s v b there)
 
   other_sits : (x : ℕ) (f : OpenCall) → x ≢ t → x ≢ v → (list_of u.waiting c.once ≡ list_of s.waiting c.once)
-      ⊎ (is_the s.inside t ≡ true)
-      → Sits (length s.words) x f (list_of s.wakes x) (list_of s.waiting f.once) s.inside
-      → Sits (length u.words) x f (list_of u.wakes x) (list_of u.waiting f.once) u.inside
+      ⊎ (is_the (inside_at s c.once) t ≡ true)
+      → Sits (length s.words) x f (list_of s.wakes x) (list_of s.waiting f.once) (inside_at s f.once)
+      → Sits (length u.words) x f (list_of u.wakes x) (list_of u.waiting f.once) (inside_at u f.once)
   other_sits x f nt nv quiet sits = record {
     low = omega (arith, sits.low, ap (λ (ws : List ℕ). length ws) two.words);
     goes = sits.goes;
@@ -115,19 +117,28 @@ module _ (s u : Onces) (t v : ℕ) (c b d e : OpenCall) (fits : Fits s) (here : 
         | inl same ↦ subst (λ (us : List ℕ). Knows us f.core.phase)
             (sym (ap (list_of u.waiting) eq ∙ same ∙ ap (list_of s.waiting) (sym eq))) sits.knows
         | inr its ↦ knows_still f.core.phase (list_of s.waiting f.once) (list_of u.waiting f.once)
-            (sits.section ∙ not_another s.inside t x nt its) sits.knows
+            (sits.section ∙ ap (λ (i : ℕ). is_the (inside_at s i) x) eq
+            ∙ not_another (inside_at s c.once) t x nt its) sits.knows
       ]
       | inr far ↦ subst (λ (us : List ℕ). Knows us f.core.phase) (sym (two.waiting f.once far)) sits.knows
     ];
     few = sits.few;
-    section = sits.section ∙ sym (ap (λ o. is_the o x) two.inside);
+    section = sits.section ∙ sym (ap (λ (o : List (Option ℕ)). is_the (bucket o (2 * f.once % length o)) x)
+        two.inside);
     awake = sits.awake;
   }
 
+  -- the buckets are as they were
+  same_bucket : (x : OpenCall) → bucket_of u x.once ≡ bucket_of s x.once
+  same_bucket x = ap (λ (o : List (Option ℕ)). 2 * x.once % length o) two.inside
+
+  was_in : (k x : ℕ) → bucket u.inside k ≡ Some x → bucket s.inside k ≡ Some x
+  was_in k x at = sym (ap (λ (o : List (Option ℕ)). bucket o k) two.inside) ∙ at
+
   pub fits_two : (step : Option Step) → IsLawful t c.once step s u
-      → Sits (length u.words) t d (list_of u.wakes t) (list_of u.waiting d.once) u.inside
-      → Sits (length u.words) v e (list_of u.wakes v) (list_of u.waiting e.once) u.inside
-      → (list_of u.waiting c.once ≡ list_of s.waiting c.once) ⊎ (is_the s.inside t ≡ true)
+      → Sits (length u.words) t d (list_of u.wakes t) (list_of u.waiting d.once) (inside_at u d.once)
+      → Sits (length u.words) v e (list_of u.wakes v) (list_of u.waiting e.once) (inside_at u e.once)
+      → (list_of u.waiting c.once ≡ list_of s.waiting c.once) ⊎ (is_the (inside_at s c.once) t ≡ true)
       → length u.waiting + length u.wakes + (cond (lies (Some c)) 1 0 + cond (lies (Some b)) 1 0) ≡ length s.waiting +
       length s.wakes + (cond (lies (Some d)) 1 0 + cond (lies (Some e)) 1 0)
       → Fits u
@@ -135,14 +146,16 @@ module _ (s u : Onces) (t v : ℕ) (c b d e : OpenCall) (fits : Fits s) (here : 
     sound = sound_all t c.once step s u fits lawful;
     words = λ j. ap (λ n. number (word_of n)) (same_words j) ∙ fits.words j ∙ sym (same_words j);
     seated = λ x f at. elim (cases_eq x t) [
-      | inl eq ↦ subst (λ (k : ℕ). Sits (length u.words) k f (list_of u.wakes k) (list_of u.waiting f.once) u.inside)
-          (sym eq)
-          (subst (λ (g : OpenCall). Sits (length u.words) t g (list_of u.wakes t) (list_of u.waiting g.once) u.inside)
+      | inl eq ↦ subst (λ (k : ℕ). Sits (length u.words) k f (list_of u.wakes k) (list_of u.waiting f.once)
+          (inside_at u f.once)) (sym eq)
+          (subst (λ (g : OpenCall). Sits (length u.words) t g (list_of u.wakes t) (list_of u.waiting g.once)
+          (inside_at u g.once))
           (same_Some d f (sym first ∙ ap (call_at u) (sym eq) ∙ at)) sits_t)
       | inr nt ↦ elim (cases_eq x v) [
-        | inl eq ↦ subst (λ (k : ℕ). Sits (length u.words) k f (list_of u.wakes k) (list_of u.waiting f.once) u.inside)
-            (sym eq)
-            (subst (λ (g : OpenCall). Sits (length u.words) v g (list_of u.wakes v) (list_of u.waiting g.once) u.inside)
+        | inl eq ↦ subst (λ (k : ℕ). Sits (length u.words) k f (list_of u.wakes k) (list_of u.waiting f.once)
+            (inside_at u f.once)) (sym eq)
+            (subst (λ (g : OpenCall). Sits (length u.words) v g (list_of u.wakes v) (list_of u.waiting g.once)
+            (inside_at u g.once))
             (same_Some e f (sym second ∙ ap (call_at u) (sym eq) ∙ at)) sits_v)
         | inr nv ↦ other_sits x f nt nv quiet (fits.seated x f (sym (others x nt nv) ∙ at))
       ]
@@ -154,13 +167,24 @@ module _ (s u : Onces) (t v : ℕ) (c b d e : OpenCall) (fits : Fits s) (here : 
         | inr nv ↦ two.wakes x nt ∙ fits.idle x (sym (others x nt nv) ∙ at)
       ]
     ];
-    inside = λ x at. elim (cases_eq x t) [
-      | inl eq ↦ (d, ap (call_at u) eq ∙ first)
+    inside = λ k x at. elim (cases_eq x t) [
+      | inl eq ↦ (
+        d,
+        ap (call_at u) eq ∙ first,
+        same_bucket d ∙ ap (bucket_of s) stays ∙ stands_in s t c fits here k (was_in k x at ∙ ap Some eq),
+      )
       | inr nt ↦ elim (cases_eq x v) [
-        | inl eq ↦ (e, ap (call_at u) eq ∙ second)
-        | inr nv ↦ let f = fits.inside x (sym two.inside ∙ at) in (f.0, others x nt nv ∙ f.1)
+        | inl eq ↦ (
+          e,
+          ap (call_at u) eq ∙ second,
+          same_bucket e ∙ ap (bucket_of s) (rests ∙ sym near)
+              ∙ stands_in s v b fits there k (was_in k x at ∙ ap Some eq),
+        )
+        | inr nv ↦ let f = fits.inside k x (was_in k x at) in
+            (f.0, others x nt nv ∙ f.1, same_bucket f.0 ∙ f.2)
       ]
     ];
+    buckets = subst (λ (o : List (Option ℕ)). 0 < length o) (sym two.inside) fits.buckets;
     room = omega (
       arith,
       room,

@@ -1,6 +1,7 @@
 -- What holds of the machine at every moment, in plain words.
 use Rattle.std.proofs.Common.{◌≡◌, ◌≢◌, ℕ, ◌<◌, ◌⊎◌, inl, inr, Bool, true, false, List, [], ◌∷◌, Option, Some, None}
 use Rattle.std.proofs.Common.{is_none, slice_get, refl, sym, ap, ◌∙◌, subst, arith}
+use Rattle.parking_lot_core_model.specs.Buckets.{slot}
 use Rattle.parking_lot_rules.specs.declared.once.once_state.OnceState.{OnceState}
 use Rattle.parking_lot_rules.specs.declared.once.once_state.OnceState.TheVariants.{New, Poisoned, InProgress, Done}
 use Rattle.parking_lot_rules.specs.declared.once.wish.Wish.{Wish}
@@ -21,7 +22,7 @@ use Rattle.parking_lot_protocol_waits.specs.Once.OnceTable.{act_of}
 use Rattle.parking_lot_machine_sides.specs.Once.Entries.{list_of}
 use Rattle.parking_lot_machine_sides.specs.Once.OnceFits.{Fits, is_in_section, is_sleeping}
 use Rattle.parking_lot_machine_sides.specs.declared.once.open_call.OpenCall.{OpenCall}
-use Rattle.parking_lot_machine_sides.specs.Once.Onces.{Onces, call_at, known_of, once_at}
+use Rattle.parking_lot_machine_sides.specs.Once.Onces.{Onces, call_at, known_of, once_at, bucket_of, inside_at}
 use Rattle.parking_lot_machine_sides.proofs.OnceFacts.Acting.{plays, role_now}
 use Rattle.parking_lot_machine_sides.proofs.OnceFacts.Owning.{is_one}
 use Rattle.std.proofs.Common.{sum_by, suc, ⊎_elim, IsTrue}
@@ -125,19 +126,31 @@ module _ (s : Onces) (fits : Fits s) where
   lists_are_waiters : ListsAreWaiters s
   lists_are_waiters i t low = (fits.sound i).listed.each t ∙ ap (at_index (weight Listed)) (role_there s i t low)
 
-  moves_so : (v : ℕ) (b : OpenCall) → call_at s v ≡ Some b → is_possible (is_none s.inside) (act_of b.core.phase) ≡ true
-      → (x : ℕ) × (can_move s x ≡ true)
+  moves_so : (v : ℕ) (b : OpenCall) → call_at s v ≡ Some b
+      → is_possible (is_none (inside_at s b.once)) (act_of b.core.phase) ≡ true → (x : ℕ) × (can_move s x ≡ true)
   moves_so v b there e = (
     v,
-    ap (λ o. option_map_or (λ (c : OpenCall). is_possible (is_none s.inside) (act_of c.core.phase)) o false) there
-        ∙ e,
+    ap (λ o. option_map_or (λ (c : OpenCall). is_possible (is_none (inside_at s c.once)) (act_of c.core.phase)) o false)
+        there ∙ e,
   )
 
-  module _ (t : ℕ) (c : OpenCall) (here : call_at s t ≡ Some c) (free : s.inside ≡ None) where
+  -- whoever is in a section goes on
+  inside_goes : (b v : ℕ) → slot s.inside b ≡ Some v → (x : ℕ) × (can_move s x ≡ true)
+  inside_goes b v e =
+      let d = fits.inside b v e in
+      moves_so v d.0 d.1
+      (inside_moves (is_none (inside_at s d.0.once)) d.0.core.phase
+      ((fits.seated v d.0 d.1).section ∙ is_one (inside_at s d.0.once) v (ap (slot s.inside) d.2 ∙ e)))
+
+  module _ (t : ℕ) (c : OpenCall) (here : call_at s t ≡ Some c) where
     goes : (v : ℕ) (b : OpenCall) → call_at s v ≡ Some b → is_sleeping b.core.phase ≡ false → (x : ℕ)
         × (can_move s x ≡ true)
-    goes v b there up =
-        moves_so v b there (ap (λ o. is_possible (is_none o) (act_of b.core.phase)) free ∙ awake_moves b.core.phase up)
+    goes v b there up = by (inside_at s b.once) refl
+      where
+        by : (o : Option ℕ) → inside_at s b.once ≡ o → (x : ℕ) × (can_move s x ≡ true)
+        by None e = moves_so v b there
+            (ap (λ o. is_possible (is_none o) (act_of b.core.phase)) e ∙ awake_moves b.core.phase up)
+        by (Some w) e = inside_goes (bucket_of s b.once) w e
 
     -- somebody is at work there
     works : (v : ℕ) (r : Role) → slice_get (once_at s c.once).roles v ≡ Some r → IsTrue (is_at_work r) → (x : ℕ)
@@ -168,18 +181,8 @@ module _ (s : Onces) (fits : Fits s) where
     by_sleep false e = inl (goes t c here e)
     by_sleep true e = let w = sleeps_is c.core.phase e in sleeps_on w.0 w.1
 
-  inside_goes : (v : ℕ) → s.inside ≡ Some v → (x : ℕ) × (can_move s x ≡ true)
-  inside_goes v e =
-      let d = fits.inside v e in
-      moves_so v d.0 d.1
-      (inside_moves (is_none s.inside) d.0.core.phase ((fits.seated v d.0 d.1).section ∙ is_one s.inside v e))
-
   somebody_can_move : SomebodyCanMove s
-  somebody_can_move t c here = go s.inside refl
-    where
-      go : (o : Option ℕ) → s.inside ≡ o → ((v : ℕ) × (can_move s v ≡ true)) ⊎ OnlyWaits s t c
-      go None e = by_sleep t c here e (is_sleeping c.core.phase) refl
-      go (Some v) e = inl (inside_goes v e)
+  somebody_can_move t c here = by_sleep t c here (is_sleeping c.core.phase) refl
 
   pub sound_machine : IsSoundMachine s
   sound_machine = record {

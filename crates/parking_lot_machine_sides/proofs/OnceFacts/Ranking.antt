@@ -29,7 +29,8 @@ use Rattle.parking_lot_machine_sides.specs.Once.OnceCalls.{wish_of, ends_well}
 use Rattle.parking_lot_machine_sides.specs.Once.OnceFits.{Fits, Sits, Knows, is_in_section, is_the, lies}
 use Rattle.parking_lot_machine_sides.specs.Once.OnceSteps.{IsActOfItsOwn, IsEntry}
 use Rattle.parking_lot_machine_sides.specs.declared.once.open_call.OpenCall.{OpenCall}
-use Rattle.parking_lot_machine_sides.specs.Once.Onces.{Onces, word_at, call_in, call_at}
+use Rattle.parking_lot_machine_sides.specs.Once.Onces.{Onces, word_at, call_in, call_at, inside_at}
+use Rattle.parking_lot_machine_sides.proofs.OnceFacts.Sections.{now_inside}
 use Rattle.parking_lot_machine_sides.proofs.OnceFacts.Acting.{word_here, within}
 use Rattle.parking_lot_machine_sides.proofs.OnceFacts.Listing.{short}
 use Rattle.parking_lot_machine_sides.proofs.OnceFacts.Owning.{the_one}
@@ -125,9 +126,9 @@ module _ (s : Onces) (t : ℕ) (c : OpenCall) (fits : Fits s) (here : call_at s 
   first = length (list_of s.waiting c.once)
 
   abbrev shut : Bool
-  shut = is_shut_to t s.inside
+  shut = is_shut_to t (inside_at s c.once)
 
-  sits : Sits (length s.words) t c (list_of s.wakes t) (list_of s.waiting c.once) s.inside
+  sits : Sits (length s.words) t c (list_of s.wakes t) (list_of s.waiting c.once) (inside_at s c.once)
   sits = fits.seated t c here
 
   low : t < length s.calls
@@ -142,16 +143,16 @@ module _ (s : Onces) (t : ℕ) (c : OpenCall) (fits : Fits s) (here : call_at s 
       (omega (arith, ap (λ cs. far n cs t) e, others_same n s.calls t o))
       (omega (arith, own))
 
-  pub own_pays : IsActOfItsOwn (act_of p) → IsEntry (act_of p) (s.inside ≡ None) → Pays t s (acted s t c)
+  pub own_pays : IsActOfItsOwn (act_of p) → IsEntry (act_of p) (inside_at s c.once ≡ None) → Pays t s (acted s t c)
   own_pays own free =
-      let leave : act_of p ≡ act.Section section.Leave → is_the s.inside t ≡ true = λ e. sym sits.section
+      let leave : act_of p ≡ act.Section section.Leave → is_the (inside_at s c.once) t ≡ true = λ e. sym sits.section
       ∙ leaves_section p e in
       let u : Onces = acted s t c in
       let d : OpenCall = told c (shown (act_of p) w) in
-      let fall = falls n p w first shut own sits.ready (fits.words c.once) (open_so (act_of p) t s.inside free leave) in
-      let same : Sees (word_at u c.once) first (is_shut_to t u.inside) ≡ Sees (does.written (act_of p) w) first shut =
+      let fall = falls n p w first shut own sits.ready (fits.words c.once) (open_so (act_of p) t (inside_at s c.once) free leave) in
+      let same : Sees (word_at u c.once) first (is_shut_to t (inside_at u c.once)) ≡ Sees (does.written (act_of p) w) first shut =
       same_view _ _ _ _ _ _ (word_here s.words c.once (does.written (act_of p) w) sits.low) refl
-      (shut_after (act_of p) t s.inside free leave) in
+      (ap (is_shut_to t) (now_inside s t c fits.buckets) ∙ shut_after (act_of p) t (inside_at s c.once) free leave) in
       one_pays u (Some d) refl (omega (
         arith,
         fall,
@@ -223,7 +224,7 @@ module _ (s : Onces) (t : ℕ) (c : OpenCall) (fits : Fits s) (here : call_at s 
       let v : ℕ = thread_in s.waiting m in
       let rest : List ℕ = list_of (remove s.waiting m) c.once in
       let u : Onces = took_at s t c m v in
-      let open_now : shut ≡ false = shut_own s.inside t (sym sits.section ∙ ap is_in_section e) in
+      let open_now : shut ≡ false = shut_own (inside_at s c.once) t (sym sits.section ∙ ap is_in_section e) in
       let given : ActResult = seen.Took (Some (record { 0 = 0 })) (does.is_left (remove s.waiting m) c.once) in
       let d : OpenCall = told c given in
       let longer : first ≡ suc (length rest) = ap (λ (vs : List ℕ). length vs) (out_same c.once s.waiting m at) in
@@ -278,7 +279,7 @@ begins_cost s t i call may =
       arith,
       ap (own_steps s t) may.free,
       ap (own_steps u t) (call_here s.calls t (Some d) may.low),
-      sees_less n (Loads (begins (wish_of call))) (word_at s i) 0 (is_shut_to t s.inside) (omega arith),
+      sees_less n (Loads (begins (wish_of call))) (word_at s i) 0 (is_shut_to t (inside_at s i)) (omega arith),
       ap (λ k. phase_steps k (view_of u t d) d.core.phase) (length-set s.calls t (Some d)),
       ap (λ k. far k u.calls t) (length-set s.calls t (Some d)),
       others_same n s.calls t (Some d),
@@ -290,17 +291,17 @@ module _ (s : Onces) (fits : Fits s) where
   own_less : (t : ℕ) (o : Option OpenCall) → call_at s t ≡ o → own_steps s t o ≤ far_steps (length s.calls) o
   own_less t None e = omega arith
   own_less t (Some c) e = sees_less (length s.calls) c.core.phase (word_at s c.once) (length (list_of s.waiting c.once))
-      (is_shut_to t s.inside) (first_le s fits c.once)
+      (is_shut_to t (inside_at s c.once)) (first_le s fits c.once)
 
   -- it stands before a section that another is in
   shut_so : (t : ℕ) (o : Option ℕ) → is_the o t ≡ false → is_none o ≡ false → is_shut_to t o ≡ true
   shut_so t None e f = absurd cc
   shut_so t (Some u) e f = ap not e
 
-  stuck_so : (t : ℕ) (c : OpenCall) (p : OncePhase) → is_in_section p ≡ is_the s.inside t
-      → is_possible (is_none s.inside) (act_of p) ≡ false → IsStuck (act_of p) (is_shut_to t s.inside)
-  stuck_so t c (Enters wish) out e = shut_so t s.inside (sym out) e
-  stuck_so t c (Looks well) out e = shut_so t s.inside (sym out) e
+  stuck_so : (t : ℕ) (c : OpenCall) (p : OncePhase) → is_in_section p ≡ is_the (inside_at s c.once) t
+      → is_possible (is_none (inside_at s c.once)) (act_of p) ≡ false → IsStuck (act_of p) (is_shut_to t (inside_at s c.once))
+  stuck_so t c (Enters wish) out e = shut_so t (inside_at s c.once) (sym out) e
+  stuck_so t c (Looks well) out e = shut_so t (inside_at s c.once) (sym out) e
   stuck_so t c (Sleeps wish) out e = tt
   stuck_so t c (Asking wish) out e = absurd cc
   stuck_so t c (Returning well) out e = absurd cc
@@ -322,11 +323,11 @@ module _ (s : Onces) (fits : Fits s) where
   stuck_so t c Invalid out e = absurd cc
 
   own_same : (t : ℕ) (o : Option OpenCall) → call_at s t ≡ o
-      → option_map_or (λ c. is_possible (is_none s.inside) (act_of c.core.phase)) o false ≡ false
+      → option_map_or (λ c. is_possible (is_none (inside_at s c.once)) (act_of c.core.phase)) o false ≡ false
       → far_steps (length s.calls) o ≤ own_steps s t o
   own_same t None e stuck = omega arith
   own_same t (Some c) e stuck = stuck_same (length s.calls) c.core.phase (word_at s c.once)
-      (length (list_of s.waiting c.once)) (is_shut_to t s.inside)
+      (length (list_of s.waiting c.once)) (is_shut_to t (inside_at s c.once))
       (stuck_so t c c.core.phase (fits.seated t c e).section stuck)
 
   left_le : (t : ℕ) → left s t ≤ sum_by (far_steps (length s.calls)) s.calls

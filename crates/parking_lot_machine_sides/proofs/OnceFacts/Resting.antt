@@ -1,9 +1,11 @@
 -- A new machine fits together.
-use Rattle.std.proofs.Common.{◌≡◌, ℕ, zero, suc, ◌+◌, ◌≤◌, false, [], ◌∷◌, length, replicate, count_by, Option, None}
+use Rattle.std.proofs.Common.{◌≡◌, ℕ, zero, suc, ◌+◌, ◌*◌, ◌≤◌, false, [], ◌∷◌, length, replicate, count_by, Option, None}
 use Rattle.std.proofs.Common.{slice_get, refl, sym, ap, ◌∙◌, subst, arith}
 use Rattle.std.proofs.lemmas.Option.{none-some}
 use Rattle.std.specs.Option.{option_map_or}
+use Rattle.parking_lot_core_model.specs.Buckets.{buckets_for, slot}
 use Rattle.parking_lot_core_model.proofs.Numbers.{count_by-cons}
+use Rattle.parking_lot_core_model.proofs.Slots.{some_buckets}
 use Rattle.parking_lot_rules.specs.Once.Once.{Role, Idle, IsSound, number, unused}
 use Rattle.parking_lot_rules.proofs.OnceFacts.Soundness.{rest_sound}
 use Rattle.parking_lot_machine_sides.specs.declared.once.open_call.OpenCall.{OpenCall}
@@ -17,6 +19,15 @@ no_call : (n t : ℕ) → call_in (replicate n None) t ≡ None
 no_call zero t = refl
 no_call (suc n) zero = refl
 no_call (suc n) (suc t) = no_call n t
+
+no_slot : (n b : ℕ) → slot (replicate {A = Option ℕ} n None) b ≡ None
+no_slot zero b = refl
+no_slot (suc n) zero = refl
+no_slot (suc n) (suc b) = no_slot n b
+
+pub buckets_at_rest : (n : ℕ) → length (replicate {A = Option ℕ} n None) ≡ n
+buckets_at_rest zero = refl
+buckets_at_rest (suc n) = omega (arith, buckets_at_rest n)
 
 no_word : (n i : ℕ) → option_map_or (λ (w : ℕ). w) (slice_get (replicate n 0) i) 0 ≡ 0
 no_word zero i = refl
@@ -50,7 +61,8 @@ module _ (threads onces : ℕ) (few : threads ≤ 65536) where
     words = λ i. subst (λ (w : ℕ). number (word_of w) ≡ w) (sym (no_word onces i)) refl;
     seated = λ t c at. absurd (none-some c (sym (no_call threads t) ∙ at));
     idle = λ t at. refl;
-    inside = λ t at. absurd (none-some t at);
+    inside = λ b t at. absurd (none-some t (sym (no_slot (buckets_for threads) b) ∙ at));
+    buckets = omega (arith, buckets_at_rest (buckets_for threads), some_buckets (3 * threads) threads);
     room = sym (nobody_lies threads);
     small = omega (arith, few, threads_at_rest threads);
   }

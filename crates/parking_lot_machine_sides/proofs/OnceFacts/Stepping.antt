@@ -20,7 +20,7 @@ use Rattle.parking_lot_machine_sides.specs.Once.OnceActs.{acted}
 use Rattle.parking_lot_machine_sides.specs.Once.OnceFits.{Fits, GoesOn}
 use Rattle.parking_lot_machine_sides.specs.Once.OnceSteps.{IsActOfItsOwn, IsEntry, move_of}
 use Rattle.parking_lot_machine_sides.specs.declared.once.open_call.OpenCall.{OpenCall}
-use Rattle.parking_lot_machine_sides.specs.Once.Onces.{Onces, word_at, call_at}
+use Rattle.parking_lot_machine_sides.specs.Once.Onces.{Onces, word_at, call_at, inside_at}
 use Rattle.std.proofs.Common.{position}
 use Rattle.std.specs.Option.{option_and_then, option_map_or}
 use Rattle.parking_lot_protocol.specs.declared.act.SectionAct.{SectionAct}
@@ -142,9 +142,9 @@ section_entry a next X e = subst (λ b. IsEntry b X) (sym e) tt
 -- WHAT A THREAD THAT CAN MOVE IS TO DO
 
 pub possible : (s : Onces) (t : ℕ) (c : OpenCall) → call_at s t ≡ Some c → can_move s t ≡ true
-    → is_possible (is_none s.inside) (act_of c.core.phase) ≡ true
+    → is_possible (is_none (inside_at s c.once)) (act_of c.core.phase) ≡ true
 possible s t c here can =
-    sym (ap (λ o. option_map_or (λ (x : OpenCall). is_possible (is_none s.inside) (act_of x.core.phase)) o false) here)
+    sym (ap (λ o. option_map_or (λ (x : OpenCall). is_possible (is_none (inside_at s x.once)) (act_of x.core.phase)) o false) here)
     ∙ can
 
 module _ (s : Onces) (t : ℕ) (c : OpenCall) (fits : Fits s) (here : call_at s t ≡ Some c) where
@@ -165,7 +165,7 @@ module _ (s : Onces) (t : ℕ) (c : OpenCall) (fits : Fits s) (here : call_at s 
   quiet : answer_of c.core.phase ≡ None → None ≡ replied c
   quiet e = sym (ap (option_and_then (reply_by c.call c.before)) e)
 
-  pub acts_stepped : IsActOfItsOwn (act_of c.core.phase) → IsEntry (act_of c.core.phase) (s.inside ≡ None)
+  pub acts_stepped : IsActOfItsOwn (act_of c.core.phase) → IsEntry (act_of c.core.phase) (inside_at s c.once ≡ None)
       → IsStepped t None s (acted s t c)
   acts_stepped own free = made_so (acted s t c) None (quiet (silent c.core.phase own))
       (sym (own_stepped (act_of c.core.phase) s t c own)) (acts_so s t c fits here own free)
@@ -230,28 +230,28 @@ module _ (s : Onces) (t : ℕ) (c : OpenCall) (fits : Fits s) (here : call_at s 
       (omega (
         arith,
         ap (phase_steps (length s.calls)
-            (Sees (word_at s c.once) (length (list_of s.waiting c.once)) (is_shut_to t s.inside))) e,
+            (Sees (word_at s c.once) (length (list_of s.waiting c.once)) (is_shut_to t (inside_at s c.once)))) e,
       ))
   end_pays (Ends end.Poisoned) e answer asked goes =
       over_pays s t c fits here
       (omega (
         arith,
         ap (phase_steps (length s.calls)
-            (Sees (word_at s c.once) (length (list_of s.waiting c.once)) (is_shut_to t s.inside))) e,
+            (Sees (word_at s c.once) (length (list_of s.waiting c.once)) (is_shut_to t (inside_at s c.once)))) e,
       ))
   end_pays (Ends end.Finished) e answer asked goes =
       over_pays s t c fits here
       (omega (
         arith,
         ap (phase_steps (length s.calls)
-            (Sees (word_at s c.once) (length (list_of s.waiting c.once)) (is_shut_to t s.inside))) e,
+            (Sees (word_at s c.once) (length (list_of s.waiting c.once)) (is_shut_to t (inside_at s c.once)))) e,
       ))
   end_pays Finishes e answer asked goes =
       over_pays s t c fits here
       (omega (
         arith,
         ap (phase_steps (length s.calls)
-            (Sees (word_at s c.once) (length (list_of s.waiting c.once)) (is_shut_to t s.inside))) e,
+            (Sees (word_at s c.once) (length (list_of s.waiting c.once)) (is_shut_to t (inside_at s c.once)))) e,
       ))
   end_pays (Asking wish) e answer asked goes = absurd (not_asking c.call c.before wish goes)
   end_pays (Returning well) e answer asked goes = absurd (not_returning c.call c.before well goes)

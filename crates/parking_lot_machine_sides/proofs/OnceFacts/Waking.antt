@@ -30,7 +30,7 @@ use Rattle.parking_lot_machine_sides.specs.Once.OnceFits.{Fits, Sits, Knows, is_
 use Rattle.parking_lot_machine_sides.specs.Once.OnceFits.{lies, taken_count, rounds_of}
 use Rattle.parking_lot_machine_sides.specs.Once.OnceSteps.{IsLawful, given_by, move_by, move_of}
 use Rattle.parking_lot_machine_sides.specs.declared.once.open_call.OpenCall.{OpenCall}
-use Rattle.parking_lot_machine_sides.specs.Once.Onces.{Onces, word_at, call_at, known_of, word_of, once_at}
+use Rattle.parking_lot_machine_sides.specs.Once.Onces.{Onces, word_at, call_at, known_of, word_of, once_at, inside_at}
 use Rattle.parking_lot_machine_sides.proofs.OnceFacts.Acting.{plays, role_now, same_once}
 use Rattle.parking_lot_machine_sides.proofs.OnceFacts.Listing.{short}
 use Rattle.std.proofs.Common.{remove, nat_lt}
@@ -110,7 +110,7 @@ module _ (s : Onces) (t : ℕ) (c : OpenCall) (fits : Fits s) (here : call_at s 
   abbrev queue : List ℕ
   queue = list_of s.waiting c.once
 
-  sits : Sits (length s.words) t c us queue s.inside
+  sits : Sits (length s.words) t c us queue (inside_at s c.once)
   sits = fits.seated t c here
 
   -- there is somebody
@@ -211,7 +211,7 @@ module _ (s : Onces) (t : ℕ) (c : OpenCall) (fits : Fits s) (here : call_at s 
       there = two_beyond s u t v c b d f fits here sleeper.1 apart sleeper.2 refl sleeper.2 two;
     }
 
-    first_sits : Sits (length s.words) t d rest queue s.inside
+    first_sits : Sits (length s.words) t d rest queue (inside_at s c.once)
     first_sits = record {
       low = sits.low;
       goes = goes_so c.call c.before c.core.phase seen.Made 0 sits.goes
@@ -231,10 +231,10 @@ module _ (s : Onces) (t : ℕ) (c : OpenCall) (fits : Fits s) (here : call_at s 
       awake = λ up. awake;
     }
 
-    sits_there : Sits (length s.words) v b (list_of s.wakes v) (list_of s.waiting b.once) s.inside
+    sits_there : Sits (length s.words) v b (list_of s.wakes v) (list_of s.waiting b.once) (inside_at s b.once)
     sits_there = fits.seated v b sleeper.1
 
-    second_sits : Sits (length s.words) v f (list_of u.wakes v) (list_of s.waiting b.once) s.inside
+    second_sits : Sits (length s.words) v f (list_of u.wakes v) (list_of s.waiting b.once) (inside_at s b.once)
     second_sits = record {
       low = sits_there.low;
       goes = goes_so b.call b.before b.core.phase (seen.Woken (record { 0 = 0 })) 0 sits_there.goes

@@ -1,5 +1,5 @@
 -- What holds of a machine of a condition variable at every moment.
-use Rattle.std.specs.Prelude.{◌≡◌, ℕ, ◌+◌, ◌^◌, ◌<◌, ◌≤◌, ◌==◌, Bool, true, false, length, Option, Some, None}
+use Rattle.std.specs.Prelude.{◌≡◌, ℕ, ◌+◌, ◌-◌, ◌^◌, ◌<◌, ◌≤◌, ◌==◌, Bool, true, false, length, Option, Some, None}
 use Rattle.std.specs.Option.{option_map_or}
 use Rattle.parking_lot_rules.specs.Variable.{IsSound}
 use Rattle.parking_lot_protocol_waits.specs.declared.wait_act.WaitAnswer.{WaitAnswer}
@@ -55,24 +55,25 @@ abbrev pub TakesFew : Bool → ℕ → Type 0
 TakesFew true taken = Unit {0}
 TakesFew false taken = taken ≤ 1
 
--- A notification is under way: what it knows is so, among so many threads, at that word, where so many wait. It counts
--- whom it has taken.
-abbrev pub NotifyKnows : Bool → ℕ → ℕ → ℕ → ℕ → NotifyPhase → Type 0
-NotifyKnows of_all threads word waiting taken (n.Loads all) = (all ≡ of_all) × (taken ≡ 0)
-NotifyKnows of_all threads word waiting taken (n.Enters all found) = (all ≡ of_all) × (taken ≡ 0)
-NotifyKnows of_all threads word waiting taken (n.Checks all found) = (all ≡ of_all) × (taken ≡ 0)
-    × (0 < word → 0 < waiting)
-NotifyKnows of_all threads word waiting taken (n.Marks all) = (all ≡ of_all) × (taken ≡ 0)
-NotifyKnows of_all threads word waiting taken (n.Moves all locked) = (all ≡ of_all) × (taken + waiting ≤ threads)
+-- A notification is under way: what it knows is so, among so many threads, at that word, where so many wait, and with
+-- the bucket of that mutex entered too. It counts whom it has taken.
+abbrev pub NotifyKnows : Bool → ℕ → ℕ → Option ℕ → ℕ → ℕ → NotifyPhase → Type 0
+NotifyKnows of_all threads word beside waiting taken (n.Loads all) = (all ≡ of_all) × (taken ≡ 0)
+NotifyKnows of_all threads word beside waiting taken (n.Enters all found) = (all ≡ of_all) × (taken ≡ 0)
+NotifyKnows of_all threads word beside waiting taken (n.Checks all found) = (all ≡ of_all) × (taken ≡ 0)
+    × (0 < word → 0 < waiting) × (beside ≡ Some (found - 1))
+NotifyKnows of_all threads word beside waiting taken (n.Marks all) = (all ≡ of_all) × (taken ≡ 0)
+    × (beside ≡ Some (word - 1))
+NotifyKnows of_all threads word beside waiting taken (n.Moves all locked) = (all ≡ of_all) × (taken + waiting ≤ threads)
     × TakesFew of_all taken
-NotifyKnows of_all threads word waiting taken (n.MarksRest notice) = (notice.count ≡ taken) × (notice.left ≡ false)
+NotifyKnows of_all threads word beside waiting taken (n.MarksRest notice) = (notice.count ≡ taken) × (notice.left ≡ false)
     × (waiting ≡ 0) × TakesFew of_all taken
-NotifyKnows of_all threads word waiting taken (n.Forgets notice) = (notice.count ≡ taken) × (waiting ≡ 0)
+NotifyKnows of_all threads word beside waiting taken (n.Forgets notice) = (notice.count ≡ taken) × (waiting ≡ 0)
     × TakesFew of_all taken
-NotifyKnows of_all threads word waiting taken (n.Leaves notice) = (notice.count ≡ taken) × TakesFew of_all taken
-NotifyKnows of_all threads word waiting taken (n.Wakes count) = (count ≡ taken) × TakesFew of_all taken
-NotifyKnows of_all threads word waiting taken (n.Ends count) = (count ≡ taken) × TakesFew of_all taken
-NotifyKnows of_all threads word waiting taken p = ⊥
+NotifyKnows of_all threads word beside waiting taken (n.Leaves notice) = (notice.count ≡ taken) × TakesFew of_all taken
+NotifyKnows of_all threads word beside waiting taken (n.Wakes count) = (count ≡ taken) × TakesFew of_all taken
+NotifyKnows of_all threads word beside waiting taken (n.Ends count) = (count ≡ taken) × TakesFew of_all taken
+NotifyKnows of_all threads word beside waiting taken p = ⊥
 
 abbrev pub IsWait : CondvarCall → Type 0
 IsWait (Wait mutex) = Unit {0}
@@ -84,15 +85,15 @@ IsNotify NotifyOne = Unit {0}
 IsNotify NotifyAll = Unit {0}
 IsNotify call = ⊥
 
-abbrev pub Knows : CondvarCall → Bool → ℕ → ℕ → ℕ → ℕ → Core → Type 0
-Knows call listed threads word waiting taken (core.Wait k) = IsWait call × WaitKnows (is_timed call) listed waiting
+abbrev pub Knows : CondvarCall → Bool → ℕ → ℕ → Option ℕ → ℕ → ℕ → Core → Type 0
+Knows call listed threads word beside waiting taken (core.Wait k) = IsWait call × WaitKnows (is_timed call) listed waiting
     k.phase
-Knows call listed threads word waiting taken (core.Notify k) = IsNotify call × NotifyKnows (is_of_all call) threads word
-    waiting taken k.phase
+Knows call listed threads word beside waiting taken (core.Notify k) = IsNotify call × NotifyKnows (is_of_all call) threads word
+    beside waiting taken k.phase
 
 -- what holds of a thread in a call
 pub record Sits (s : State) (t : ℕ) (c : OpenCall) : Type 0 where
-  pub knows : Knows c.call c.listed (length s.calls) s.word (length s.queue) c.taken c.core
+  pub knows : Knows c.call c.listed (length s.calls) s.word s.beside (length s.queue) c.taken c.core
   pub section : is_inside c ≡ is_the s.inside t
 
 pub record Fits (s : State) : Type 0 where

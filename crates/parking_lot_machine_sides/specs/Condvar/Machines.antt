@@ -19,8 +19,9 @@ pub record State : Type 0 where
   pub calls : List (Option OpenCall)
   -- who waits, oldest first
   pub queue : List ℕ
-  -- who is in the section
+  -- who is in the section, and the mutex whose bucket it has entered too, as a notification does
   pub inside : Option ℕ
+  pub beside : Option ℕ
 
 abbrev pub call_in : List (Option OpenCall) → ℕ → Option OpenCall
 call_in calls t = option_and_then (λ c. c) (slice_get calls t)
@@ -79,4 +80,4 @@ may_begin s t call = nat_lt t (length s.calls) && (is_none (call_at s t) && has_
 
 -- nobody is in a call
 abbrev pub at_rest : ℕ → State
-at_rest threads = record { word = 0; calls = replicate threads None; queue = []; inside = None }
+at_rest threads = record { word = 0; calls = replicate threads None; queue = []; inside = None; beside = None }

@@ -1,5 +1,5 @@
 -- What an act at the variable leaves of the machine, and which steps of the rules it is.
-use Rattle.std.specs.Prelude.{ℕ, ◌+◌, ◌==◌, ◌||◌, Bool, true, false, not, if◌then◌else◌, List, [], ◌∷◌, ◌++◌, remove}
+use Rattle.std.specs.Prelude.{ℕ, ◌+◌, ◌-◌, ◌==◌, ◌||◌, Bool, true, false, not, if◌then◌else◌, List, [], ◌∷◌, ◌++◌, remove}
 use Rattle.std.specs.Prelude.{Option, Some, None, slice_set}
 use Rattle.std.specs.List.{position}
 use Rattle.parking_lot_rules.specs.Variable as rules
@@ -75,6 +75,16 @@ inside_after_notify t (n.Enters all word) inside = Some t
 inside_after_notify t (n.Leaves notice) inside = None
 inside_after_notify t p inside = inside
 
+-- the mutex whose bucket is entered too
+abbrev pub beside_after_wait : WaitPhase → Option ℕ → Option ℕ
+beside_after_wait (w.Enters k) beside = None
+beside_after_wait (w.Expires k) beside = None
+beside_after_wait p beside = beside
+
+abbrev pub beside_after_notify : NotifyPhase → Option ℕ → Option ℕ
+beside_after_notify (n.Enters all word) beside = Some (word - 1)
+beside_after_notify p beside = beside
+
 -- a call that is over goes
 abbrev pub wait_goes : OpenCall → WaitCore → WaitSeen → WaitPhase → Option OpenCall
 wait_goes c k seen (w.Ends answer) = None
@@ -92,12 +102,14 @@ stepped_by (core.Wait k) s t c = record {
       (wait_goes c k (wait_sees s.word (is_left (queue_after_wait t k.phase s.queue)) k.phase) k.phase);
   queue = queue_after_wait t k.phase s.queue;
   inside = inside_after_wait t k.phase s.inside;
+  beside = beside_after_wait k.phase s.beside;
 }
 stepped_by (core.Notify k) s t c = record {
   word = word_after_notify k.phase s.word;
   calls = slice_set s.calls t (notify_goes c k (notify_sees s.word k.phase) k.phase);
   queue = s.queue;
   inside = inside_after_notify t k.phase s.inside;
+  beside = beside_after_notify k.phase s.beside;
 }
 
 -- The machine after an act of a thread in that call at the variable, whole.

@@ -1,5 +1,5 @@
 -- Which acts of a call are made at the condition variable, and which elsewhere.
-use Rattle.std.specs.Prelude.{ℕ, ◌&&◌, Bool, true, false, not}
+use Rattle.std.specs.Prelude.{ℕ, ◌-◌, ◌&&◌, Bool, true, false, not, Option, Some, None}
 use Rattle.parking_lot_protocol_waits.specs.declared.wait_core.WaitPhase.{WaitPhase}
 use Rattle.parking_lot_protocol_waits.specs.declared.wait_core.WaitPhase.TheVariants as w
 use Rattle.parking_lot_protocol_waits.specs.declared.notify_core.NotifyPhase.{NotifyPhase}
@@ -56,6 +56,18 @@ enters_by listed (core.Notify k) = notify_enters k.phase
 
 abbrev pub enters : OpenCall → Bool
 enters c = enters_by c.listed c.core
+
+-- A notification enters the bucket of the mutex too, whose word it has loaded.
+abbrev pub notify_enters_beside : NotifyPhase → Option ℕ
+notify_enters_beside (n.Enters all word) = Some (word - 1)
+notify_enters_beside p = None
+
+abbrev pub enters_beside_by : Core → Option ℕ
+enters_beside_by (core.Wait k) = None
+enters_beside_by (core.Notify k) = notify_enters_beside k.phase
+
+abbrev pub enters_beside : OpenCall → Option ℕ
+enters_beside c = enters_beside_by c.core
 
 -- it is in the section
 abbrev pub wait_is_inside : Bool → WaitPhase → Bool

@@ -19,7 +19,8 @@ use Rattle.parking_lot_machine_sides.specs.declared.once.calls.OnceCall.{OnceCal
 use Rattle.parking_lot_machine_sides.specs.declared.once.calls.OnceReply.{OnceReply}
 use Rattle.parking_lot_machine_sides.specs.Once.Entries.{is_in, joined}
 use Rattle.parking_lot_machine_sides.specs.Once.OnceCalls.{ends_well, reply_by, wish_of}
-use Rattle.parking_lot_machine_sides.specs.Once.Onces.{Entry, OpenCall, Onces, word_at, call_at}
+use Rattle.parking_lot_core_model.specs.Buckets.{buckets_for}
+use Rattle.parking_lot_machine_sides.specs.Once.Onces.{Entry, OpenCall, Onces, bucket_of, call_at, inside_at, word_at}
 
 -- CALLS
 
@@ -68,7 +69,7 @@ written (act.Exchange from to) w = if w == from then to else w
 written (act.Section (section.Store plain fair)) w = change_of plain w
 written a w = w
 
--- and who is inside the section that is open
+-- and who is inside the section of its bucket
 abbrev pub inside_after : Act → ℕ → Option ℕ → Option ℕ
 inside_after (act.Enter key) t o = Some t
 inside_after (act.Section section.Leave) t o = None
@@ -84,7 +85,7 @@ abbrev pub acted : Onces → ℕ → OpenCall → Onces
 acted s t c = record s {
   words = slice_set s.words c.once (written (act_of c.core.phase) (word_at s c.once));
   calls = slice_set s.calls t (Some (told c (shown (act_of c.core.phase) (word_at s c.once))));
-  inside = inside_after (act_of c.core.phase) t s.inside;
+  inside = slice_set s.inside (bucket_of s c.once) (inside_after (act_of c.core.phase) t (inside_at s c.once));
 }
 
 -- it joins the list
@@ -160,14 +161,14 @@ begun s t i call = with_call s t (Some (call_for i call))
 
 -- WHEN A STEP MAY BE MADE
 
--- one that sleeps makes none, and a section is entered only where none is open
+-- one that sleeps makes none, and a section is entered only where none is open in its bucket
 abbrev pub is_possible : Bool → Act → Bool
 is_possible free act.Sleep = false
 is_possible free (act.Enter key) = free
 is_possible free other = true
 
 abbrev pub can_move : Onces → ℕ → Bool
-can_move s t = option_map_or (λ c. is_possible (is_none s.inside) (act_of c.core.phase)) (call_at s t) false
+can_move s t = option_map_or (λ c. is_possible (is_none (inside_at s c.once)) (act_of c.core.phase)) (call_at s t) false
 
 -- one in no call begins one at a once that there is
 abbrev pub may_begin : Onces → ℕ → ℕ → Bool
@@ -183,5 +184,10 @@ is_asleep s t = option_map_or (λ c. sleeps (act_of c.core.phase)) (call_at s t)
 
 -- a machine of new onces, where nobody is in a call
 abbrev pub at_rest : ℕ → ℕ → Onces
-at_rest threads onces =
-    record { words = replicate onces 0; calls = replicate threads None; waiting = []; wakes = []; inside = None }
+at_rest threads onces = record {
+  words = replicate onces 0;
+  calls = replicate threads None;
+  waiting = [];
+  wakes = [];
+  inside = replicate (buckets_for threads) None;
+}

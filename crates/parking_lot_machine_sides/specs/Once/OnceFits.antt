@@ -16,7 +16,9 @@ use Rattle.parking_lot_protocol_waits.specs.Once.OnceMoves.{IsReady}
 use Rattle.parking_lot_machine_sides.specs.declared.once.calls.OnceCall.{OnceCall}
 use Rattle.parking_lot_machine_sides.specs.Once.Entries.{list_of}
 use Rattle.parking_lot_machine_sides.specs.Once.OnceCalls.{ends_well, wish_of}
-use Rattle.parking_lot_machine_sides.specs.Once.Onces.{OpenCall, Onces, word_at, call_at, word_of, once_at}
+use Rattle.parking_lot_core_model.specs.Buckets.{slot}
+use Rattle.parking_lot_machine_sides.specs.Once.Onces.{OpenCall, Onces, bucket_of, call_at, inside_at, once_at, word_at}
+use Rattle.parking_lot_machine_sides.specs.Once.Onces.{word_of}
 
 -- it is in a section
 abbrev pub is_in_section : OncePhase → Bool
@@ -72,7 +74,7 @@ abbrev pub is_the : Option ℕ → ℕ → Bool
 is_the o t = option_map_or (λ u. u == t) o false
 
 -- what holds of a thread in a call, among so many onces, with whom it is to wake, its once's list, and who is in the
--- section
+-- section of its bucket
 pub record Sits (onces t : ℕ) (c : OpenCall) (us queue : List ℕ) (inside : Option ℕ) : Type 0 where
   pub low : c.once < onces
   pub goes : GoesOn c.call c.before c.core.phase
@@ -92,10 +94,11 @@ pub record Fits (s : Onces) : Type 0 where
   pub sound : (i : ℕ) → IsSound (once_at s i)
   pub words : (i : ℕ) → number (word_of (word_at s i)) ≡ word_at s i
   pub seated : (t : ℕ) (c : OpenCall) → call_at s t ≡ Some c → Sits (length s.words) t c (list_of s.wakes t)
-      (list_of s.waiting c.once) s.inside
-  -- one in no call is to wake nobody; and who is in the section is in a call
+      (list_of s.waiting c.once) (inside_at s c.once)
+  -- one in no call is to wake nobody; and who is in the section of a bucket is in a call there
   pub idle : (t : ℕ) → call_at s t ≡ None → list_of s.wakes t ≡ []
-  pub inside : (t : ℕ) → s.inside ≡ Some t → (c : OpenCall) × (call_at s t ≡ Some c)
+  pub inside : (b t : ℕ) → slot s.inside b ≡ Some t → (c : OpenCall) × (call_at s t ≡ Some c) × (bucket_of s c.once ≡ b)
+  pub buckets : 0 < length s.inside
   -- the entries are those that wait or are to be woken
   pub room : length s.waiting + length s.wakes ≡ count_by lies s.calls
   pub small : length s.calls ≤ 65536

@@ -19,7 +19,7 @@ use Rattle.parking_lot_protocol_waits.specs.Once.OnceTable.{state_of, is_parked,
 use Rattle.parking_lot_machine_sides.specs.declared.once.calls.OnceCall.{OnceCall}
 use Rattle.parking_lot_machine_sides.specs.Once.OnceCalls.{wish_of}
 use Rattle.parking_lot_machine_sides.specs.Once.Entries.{list_of}
-use Rattle.parking_lot_machine_sides.specs.Once.Onces.{OpenCall, Onces, word_at, call_at}
+use Rattle.parking_lot_machine_sides.specs.Once.Onces.{OpenCall, Onces, call_at, inside_at, word_at}
 
 -- What counts of the machine for a thread's steps: nothing, where another thread is stepped, and all that it has seen
 -- may be out of date; else the word of its once, how many wait there, and whether another thread is inside a section
@@ -115,7 +115,7 @@ is_shut_to t None = false
 is_shut_to t (Some u) = not (u == t)
 
 abbrev pub view_of : Onces → ℕ → OpenCall → View
-view_of s t c = Sees (word_at s c.once) (length (list_of s.waiting c.once)) (is_shut_to t s.inside)
+view_of s t c = Sees (word_at s c.once) (length (list_of s.waiting c.once)) (is_shut_to t (inside_at s c.once))
 
 abbrev pub own_steps : Onces → ℕ → Option OpenCall → ℕ
 own_steps s t None = 0

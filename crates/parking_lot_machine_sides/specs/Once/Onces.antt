@@ -1,7 +1,8 @@
 -- What a machine of onces consists of, and which one-time initializations of the rules it shows.
-use Rattle.std.specs.Prelude.{ℕ, ◌==◌, if◌then◌else◌, List, length, map, Option, Some, None, slice_get}
+use Rattle.std.specs.Prelude.{ℕ, ◌*◌, ◌%◌, ◌==◌, if◌then◌else◌, List, length, map, Option, Some, None, slice_get}
 use Rattle.std.specs.List.{range_with_len}
 use Rattle.std.specs.Option.{option_and_then, option_map_or}
+use Rattle.parking_lot_core_model.specs.Buckets.{slot}
 use Rattle.parking_lot_rules.specs.Classes.{bit}
 use Rattle.parking_lot_rules.specs.Once.Once.{Once, Role, Idle, Word}
 use Rattle.parking_lot_protocol_waits.specs.Once.OnceTable.{state_of, is_parked}
@@ -18,8 +19,8 @@ pub record Onces : Type 0 where
   -- who waits, by once; and whom threads have taken and are still to wake, by thread
   pub waiting : List Entry
   pub wakes : List Entry
-  -- who is in the section that is open
-  pub inside : Option ℕ
+  -- by bucket: who is in the section that is open there
+  pub inside : List (Option ℕ)
 
 abbrev pub word_at : Onces → ℕ → ℕ
 word_at s i = option_map_or (λ w. w) (slice_get s.words i) 0
@@ -29,6 +30,15 @@ call_in calls t = option_and_then (λ c. c) (slice_get calls t)
 
 abbrev pub call_at : Onces → ℕ → Option OpenCall
 call_at s t = call_in s.calls t
+
+-- SECTIONS
+
+-- the bucket of a once, whose list is under the first of its two keys; and who has entered it
+abbrev pub bucket_of : Onces → ℕ → ℕ
+bucket_of s i = 2 * i % length s.inside
+
+abbrev pub inside_at : Onces → ℕ → Option ℕ
+inside_at s i = slot s.inside (bucket_of s i)
 
 -- WHAT A THREAD IS TO A ONCE
 

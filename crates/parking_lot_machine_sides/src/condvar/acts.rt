@@ -4,7 +4,8 @@ ghost use Rattle.std.specs.Option.{option_map};
 ghost use Rattle.parking_lot_machine_sides.specs.declared.condvar.open_call.Core.TheVariants as of;
 ghost use Rattle.parking_lot_machine_sides.specs.Condvar.Calls.{off_list};
 ghost use Rattle.parking_lot_machine_sides.specs.Condvar.Machines.{call_at, call_in, is_left, may_step, may_take};
-ghost use Rattle.parking_lot_machine_sides.specs.Condvar.OwnSteps.{WhereItJoins, inside_after_notify};
+ghost use Rattle.parking_lot_machine_sides.specs.Condvar.OwnSteps.{WhereItJoins, beside_after_notify};
+ghost use Rattle.parking_lot_machine_sides.specs.Condvar.OwnSteps.{beside_after_wait, inside_after_notify};
 ghost use Rattle.parking_lot_machine_sides.specs.Condvar.OwnSteps.{inside_after_wait, notify_sees, place_of};
 ghost use Rattle.parking_lot_machine_sides.specs.Condvar.OwnSteps.{queue_after_wait, stepped, wait_sees, without};
 ghost use Rattle.parking_lot_machine_sides.specs.Condvar.OwnSteps.{word_after_notify, word_after_wait};
@@ -84,6 +85,26 @@ fn inside_after_notify(thread: usize, phase: NotifyPhase, inside: Option<usize>)
     }
 }
 
+/// The mutex whose bucket is entered too after an act of a wait, which enters its own alone.
+fn beside_after_wait(phase: WaitPhase, beside: Option<u64>) -> Option<u64>
+    ensures { result ≡ beside_after_wait phase beside }
+{
+    match phase {
+        WaitPhase::Enters(_) | WaitPhase::Expires(_) => None,
+        _ => beside,
+    }
+}
+
+/// The mutex whose bucket is entered too after an act of a notification.
+fn beside_after_notify(phase: NotifyPhase, beside: Option<u64>) -> Option<u64>
+    ensures { result ≡ beside_after_notify phase beside }
+{
+    match phase {
+        NotifyPhase::Enters(_, word) => Some(word.saturating_sub(1)),
+        _ => beside,
+    }
+}
+
 /// Where a thread stands in a list.
 fn place_of(queue: &[usize], thread: usize) -> Option<usize>
     ensures { result ≡ place_of thread queue.now }
@@ -141,6 +162,7 @@ impl<A: Allocator> CondvarMachine<A> {
         let seen = wait_sees(self.word, self.queue.len() > 0, phase);
         self.word = word_after_wait(phase, self.word);
         self.inside = inside_after_wait(thread, phase, self.inside);
+        self.beside = beside_after_wait(phase, self.beside);
         self.calls[thread] = call.goes_on_waiting(core, seen);
     }
 
@@ -155,6 +177,7 @@ impl<A: Allocator> CondvarMachine<A> {
         let seen = notify_sees(self.word, phase);
         self.word = word_after_notify(phase, self.word);
         self.inside = inside_after_notify(thread, phase, self.inside);
+        self.beside = beside_after_notify(phase, self.beside);
         self.calls[thread] = call.goes_on_notifying(core, seen);
     }
 

@@ -23,6 +23,8 @@ pub struct CondvarMachine<A: Allocator = Global> {
     pub(crate) queue: Vec<usize, A>,
     /// Who is in the variable's section.
     pub(crate) inside: Option<usize>,
+    /// The mutex whose bucket it has entered too, as a notification does.
+    pub(crate) beside: Option<u64>,
 }
 
 impl<A: Allocator> Model for CondvarMachine<A> {
@@ -32,10 +34,22 @@ impl<A: Allocator> Model for CondvarMachine<A> {
 
     ghost Value = { State };
 
-    ghost view = { λ m. record { word = m.word; calls = m.calls.items; queue = m.queue.items; inside = m.inside } };
+    ghost view = { λ m. record {
+      word = m.word;
+      calls = m.calls.items;
+      queue = m.queue.items;
+      inside = m.inside;
+      beside = m.beside;
+    } };
 
     ghost invariant = { λ m. Fits
-        (record { word = m.word; calls = m.calls.items; queue = m.queue.items; inside = m.inside })
+        (record {
+          word = m.word;
+          calls = m.calls.items;
+          queue = m.queue.items;
+          inside = m.inside;
+          beside = m.beside;
+        })
         × (length m.calls.items ≤ vec_capacity m.queue) };
 }
 
@@ -73,6 +87,13 @@ impl<A: Allocator> CondvarMachine<A> {
         ensures { result ≡ self.now.inside }
     {
         self.inside
+    }
+
+    /// The mutex whose bucket who is in the section has entered too, as a notification does.
+    pub fn beside(&self) -> Option<u64>
+        ensures { result ≡ self.now.beside }
+    {
+        self.beside
     }
 
     /// Whether a thread's next act is one of its own at the variable, and can be made: a section is entered only while

@@ -25,6 +25,7 @@ impl<A: Allocator + Clone + Drop> CondvarMachine<A> {
             calls: vec![in alloc.clone()?; None; threads]?,
             queue: Vec::with_capacity(alloc.clone()?, threads)?,
             inside: None,
+            beside: None,
         })
     }
 }

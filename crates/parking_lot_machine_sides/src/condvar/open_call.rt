@@ -7,7 +7,8 @@ ghost use Rattle.parking_lot_machine_sides.specs.Condvar.Calls.{call_for, off_li
 ghost use Rattle.parking_lot_machine_sides.specs.Condvar.Calls.{reply_in_wait, started, took_one};
 ghost use Rattle.parking_lot_machine_sides.specs.Condvar.Outsides.{hears_by, told_by};
 ghost use Rattle.parking_lot_machine_sides.specs.Condvar.OwnSteps.{notify_goes, wait_goes};
-ghost use Rattle.parking_lot_machine_sides.specs.Condvar.Turns.{enters, is_own, notify_is_own, takes_by, wait_is_own};
+ghost use Rattle.parking_lot_machine_sides.specs.Condvar.Turns.{enters, enters_beside, is_own, notify_is_own, takes_by};
+ghost use Rattle.parking_lot_machine_sides.specs.Condvar.Turns.{wait_is_own};
 
 use crate::condvar::calls::{CondvarCall, CondvarReply};
 use crate::condvar::outside::{Outside, notify_fits, wait_fits};
@@ -82,6 +83,19 @@ impl OpenCall {
             Core::Notify(core) => match core.phase() {
                 NotifyPhase::Enters(_, _) => true,
                 _ => false,
+            },
+        }
+    }
+
+    /// The mutex whose bucket that act enters too: a notification's, of the word that it has loaded.
+    pub fn enters_beside(&self) -> Option<u64>
+        ensures { result ≡ enters_beside self.now }
+    {
+        match self.core {
+            Core::Wait(_) => None,
+            Core::Notify(core) => match core.phase() {
+                NotifyPhase::Enters(_, word) => Some(word.saturating_sub(1)),
+                _ => None,
             },
         }
     }

@@ -6,7 +6,7 @@ ghost use Rattle.parking_lot_protocol.specs.declared.act.CoreAnswer.{CoreAnswer}
 ghost use Rattle.parking_lot_protocol.specs.declared.act.SectionAct.TheVariants as section;
 ghost use Rattle.parking_lot_core_model.specs.declared.parking.ParkToken.{ParkToken};
 ghost use Rattle.parking_lot_protocol_waits.specs.Once.OnceTable.{act_of};
-ghost use Rattle.parking_lot_machine_sides.specs.Once.Onces.{call_at, call_in};
+ghost use Rattle.parking_lot_machine_sides.specs.Once.Onces.{call_at, call_in, inside_at};
 ghost use Rattle.parking_lot_machine_sides.specs.Once.OnceActs.{acted, appended, ended, inside_after, off_list};
 ghost use Rattle.parking_lot_machine_sides.specs.Once.OnceActs.{replied, shown, took, woke, woken, written};
 ghost use Rattle.parking_lot_machine_sides.specs.Once.OnceSteps.{IsActOfItsOwn, IsEntry};
@@ -51,7 +51,7 @@ fn written(act: Act, word: u64) -> u64
     }
 }
 
-/// Who is in the section that is open after it.
+/// Who is in the section of its bucket after it.
 fn inside_after(act: Act, thread: usize, inside: Option<usize>) -> Option<usize>
     ensures { result ≡ inside_after act thread inside }
 {
@@ -89,13 +89,15 @@ impl<A: Allocator> OnceMachine<A> {
         requires here { call_at self.old thread ≡ Some call }
         requires asked { act_of call.core.phase ≡ act }
         requires own { IsActOfItsOwn act }
-        requires free { IsEntry act (self.old.inside ≡ None) }
+        requires free { IsEntry act (inside_at self.old call.once ≡ None) }
         ensures { self.new ≡ acted self.old thread call }
     {
         let word = self.word(call.once);
+        let bucket = self.bucket(call.once);
+        let inside = inside_after(act, thread, self.entered(bucket));
         self.words[call.once] = written(act, word);
         self.calls[thread] = Some(call.told(shown(act, word)));
-        self.inside = inside_after(act, thread, self.inside);
+        self.inside[bucket] = inside;
     }
 
     /// It joins the list.

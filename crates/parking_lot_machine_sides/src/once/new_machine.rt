@@ -3,6 +3,7 @@ ghost use Rattle.std.specs.Prelude.{◌≡◌, ◌<◌, ◌↔◌, ◌⊎◌, �
 ghost use Rattle.parking_lot_core_model.specs.declared.fault.SizeFault.TheVariants.{BadSize};
 ghost use Rattle.parking_lot_machine_sides.specs.Once.OnceActs.{at_rest};
 
+use crate::buckets::buckets_for;
 use crate::once::once_machine::OnceMachine;
 use parking_lot_core_model::SizeFault;
 use std::alloc::Allocator;
@@ -28,7 +29,7 @@ impl<A: Allocator + Clone + Drop> OnceMachine<A> {
             calls: vec![in alloc.clone()?; None; threads]?,
             waiting: Vec::with_capacity(alloc.clone()?, threads)?,
             wakes: Vec::with_capacity(alloc.clone()?, threads)?,
-            inside: None,
+            inside: vec![in alloc.clone()?; None; buckets_for(threads)]?,
         })
     }
 }

@@ -2,10 +2,12 @@
 ghost use Rattle.std.specs.Prelude.{◌≡◌, length, None, Some, true};
 ghost use Rattle.parking_lot_protocol.specs.declared.act.Act.TheVariants as asks;
 ghost use Rattle.parking_lot_protocol_waits.specs.Once.OnceTable.{act_of};
-ghost use Rattle.parking_lot_machine_sides.specs.Once.Onces.{call_at, word_at};
+ghost use Rattle.parking_lot_core_model.specs.Buckets.{slot};
+ghost use Rattle.parking_lot_machine_sides.specs.Once.Onces.{bucket_of, call_at, inside_at, word_at};
 ghost use Rattle.parking_lot_machine_sides.specs.Once.OnceActs.{can_move, may_begin};
 ghost use Rattle.parking_lot_machine_sides.specs.Once.OnceSteps.{IsBegun, IsStepped};
 
+use crate::buckets::first_bucket;
 use crate::once::calls::{OnceCall, OnceReply};
 use crate::once::entry::Entry;
 use crate::once::open_call::OpenCall;
@@ -17,8 +19,8 @@ use std::marker::Model;
 ///
 /// A thread [begins](OnceMachine::begin) a call at a once, and then makes one atomic [step](OnceMachine::step) after
 /// another, in any order among the threads, until the call is answered. Each step is a step of the rules of the once,
-/// or changes nothing there. All room is taken where the machine is made. At most one section is open in the whole
-/// machine.
+/// or changes nothing there. All room is taken where the machine is made. The list of a once has twice its number as
+/// its key, and at most one section is open in each bucket of keys.
 #[derive(Drop)]
 pub struct OnceMachine<A: Allocator = Global> {
     pub(crate) words: Vec<u64, A>,
@@ -27,8 +29,8 @@ pub struct OnceMachine<A: Allocator = Global> {
     pub(crate) waiting: Vec<Entry, A>,
     /// Whom threads have taken and are still to wake, by the number of the one that is to wake them.
     pub(crate) wakes: Vec<Entry, A>,
-    /// Who is in the section that is open.
-    pub(crate) inside: Option<usize>,
+    /// By bucket: who is in the section that is open there.
+    pub(crate) inside: Vec<Option<usize>, A>,
 }
 
 impl<A: Allocator> Model for OnceMachine<A> {
@@ -43,7 +45,7 @@ impl<A: Allocator> Model for OnceMachine<A> {
       calls = m.calls.items;
       waiting = m.waiting.items;
       wakes = m.wakes.items;
-      inside = m.inside;
+      inside = m.inside.items;
     } };
 
     ghost invariant = { λ m. Fits
@@ -52,7 +54,7 @@ impl<A: Allocator> Model for OnceMachine<A> {
           calls = m.calls.items;
           waiting = m.waiting.items;
           wakes = m.wakes.items;
-          inside = m.inside;
+          inside = m.inside.items;
         }) × (length m.calls.items ≤ vec_capacity m.waiting)
         × (length m.calls.items ≤ vec_capacity m.wakes) };
 }
@@ -87,14 +89,29 @@ impl<A: Allocator> OnceMachine<A> {
         self.calls.get(thread).copied().flatten()
     }
 
-    /// Who is in the section that is open.
-    pub fn inside(&self) -> Option<usize>
-        ensures { result ≡ self.now.inside }
+    /// Who has entered a bucket, if a section is open in it.
+    pub fn entered(&self, bucket: usize) -> Option<usize>
+        ensures { result ≡ slot self.now.inside bucket }
     {
-        self.inside
+        self.inside.get(bucket).copied().flatten()
     }
 
-    /// Whether a thread can make a step: it is in a call, doesn't sleep, and isn't before a section while one is open.
+    /// The bucket of a once.
+    pub fn bucket(&self, once: usize) -> usize
+        ensures { result ≡ bucket_of self.now once }
+    {
+        first_bucket(once, self.inside.len())
+    }
+
+    /// Who has entered the bucket of a once.
+    pub fn inside(&self, once: usize) -> Option<usize>
+        ensures { result ≡ inside_at self.now once }
+    {
+        self.entered(self.bucket(once))
+    }
+
+    /// Whether a thread can make a step: it is in a call, doesn't sleep, and isn't before a section while one is open in
+    /// its bucket.
     pub fn can_move(&self, thread: usize) -> bool
         ensures { result ≡ can_move self.now thread }
     {
@@ -103,7 +120,7 @@ impl<A: Allocator> OnceMachine<A> {
         };
         match call.core.act() {
             Act::Sleep => false,
-            Act::Enter(_) => self.inside.is_none(),
+            Act::Enter(_) => self.inside(call.once).is_none(),
             _ => true,
         }
     }

@@ -1,4 +1,4 @@
-use Rattle.parking_lot_machine_waits.proofs.Progress.{somebody_can_move}
+use Rattle.parking_lot_machine_waits.proofs.Movers.{somebody_can_move}
 use Rattle.parking_lot_machine_waits.proofs.laws.somebody_can_move.Goals as goal
 
 pub returns : goal.returns

@@ -1,4 +1,4 @@
-use Rattle.parking_lot_machine_waits.proofs.Progress.{somebody_inside_goes}
+use Rattle.parking_lot_machine_waits.proofs.Movers.{somebody_inside_goes}
 use Rattle.parking_lot_machine_waits.proofs.laws.somebody_inside_goes.Goals as goal
 
 pub returns : goal.returns

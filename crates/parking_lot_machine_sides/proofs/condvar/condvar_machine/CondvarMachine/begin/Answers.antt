@@ -14,6 +14,7 @@ returns g c =
       calls = c.self.inside.calls.items;
       queue = c.self.inside.queue.items;
       inside = c.self.inside.inside;
+      beside = c.self.inside.beside;
     } in
     subst (IsBegun c.args.thread c.args.call c.args.self.now)
     (sym (ap (λ (d : OpenCall). record m { calls = slice_set m.calls c.args.thread (Some d) }) c.begun.ensures

@@ -12,6 +12,7 @@ invariant_of-result g c =
       calls = c.in_ok-vec.field-0.items;
       queue = c.in_ok-with_capacity.field-0.items;
       inside = None;
+      beside = None;
     } in
     let is : now ≡ at_rest c.args.threads = search rules in
     let room : length c.in_ok-vec.field-0.items ≤ vec_capacity c.in_ok-with_capacity.field-0 =

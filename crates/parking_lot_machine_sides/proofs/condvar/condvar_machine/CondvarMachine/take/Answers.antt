@@ -17,6 +17,7 @@ index_mut-requires g c =
       calls = c.self.inside.calls.items;
       queue = c.self.inside.queue.items;
       inside = c.self.inside.inside;
+      beside = c.self.inside.beside;
     } in
     omega (
       arith,
@@ -34,6 +35,7 @@ took_one-requires g c =
       calls = c.self.inside.calls.items;
       queue = c.self.inside.queue.items;
       inside = c.self.inside.inside;
+      beside = c.self.inside.beside;
     } in
     record {
       few = few_so m c.args.thread c.args.call c.self.invariant.0
@@ -52,6 +54,7 @@ invariant_of-self g c =
       calls = c.self.inside.calls.items;
       queue = c.self.inside.queue.items;
       inside = c.self.inside.inside;
+      beside = c.self.inside.beside;
     } in
     let v = c.remove-waiter.result in (
       subst Fits (sym (took m c.args.thread c.args.call v _ _ _

@@ -17,6 +17,7 @@ returns-in-Some g c =
       calls = c.self.inside.calls.items;
       queue = c.self.inside.queue.items;
       inside = c.self.inside.inside;
+      beside = c.self.inside.beside;
     } in
     let now = c.args.self.now in
     let call = c.in-Some.call in
@@ -37,6 +38,7 @@ invariant_of-self g c =
       calls = c.self.inside.calls.items;
       queue = c.self.inside.queue.items;
       inside = c.self.inside.inside;
+      beside = c.self.inside.beside;
     } in
     let now = c.args.self.now in
     let call = c.in-Some.call in

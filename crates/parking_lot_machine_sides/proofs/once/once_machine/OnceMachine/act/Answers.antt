@@ -1,6 +1,7 @@
 use Rattle.std.proofs.Common.{◌≡◌, sym, subst, arith, rules}
 use Rattle.parking_lot_machine_sides.specs.Once.OnceFits.{Fits}
 use Rattle.parking_lot_machine_sides.specs.Once.OnceSteps.{IsActOfItsOwn, IsEntry}
+use Rattle.parking_lot_machine_sides.specs.Once.Onces.{inside_at}
 use Rattle.parking_lot_machine_sides.proofs.OnceFacts.Holding.{low, room_set, word_low}
 use Rattle.parking_lot_machine_sides.proofs.OnceFacts.OwnActs.{acts_so}
 use Rattle.parking_lot_machine_sides.proofs.once.once_machine.OnceMachine.act.Goals as goal
@@ -25,7 +26,7 @@ invariant_of-self g c = (
   subst Fits (sym (returns g c))
       (acts_so c.args.self.now c.args.thread c.args.call (subst Fits c.self.view_is c.self.invariant.0) c.requires.here
       (subst IsActOfItsOwn (sym c.requires.asked) c.requires.own)
-      (subst (λ a. IsEntry a (c.args.self.now.inside ≡ _)) (sym c.requires.asked) c.requires.free)).fits,
+      (subst (λ a. IsEntry a (inside_at c.args.self.now c.args.call.once ≡ _)) (sym c.requires.asked) c.requires.free)).fits,
   room_set _ _ _ _ c.self.invariant.1,
   room_set _ _ _ _ c.self.invariant.2,
 )

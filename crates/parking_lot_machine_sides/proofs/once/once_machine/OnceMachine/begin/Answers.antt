@@ -18,7 +18,7 @@ returns g c =
       calls = c.self.inside.calls.items;
       waiting = c.self.inside.waiting.items;
       wakes = c.self.inside.wakes.items;
-      inside = c.self.inside.inside;
+      inside = c.self.inside.inside.items;
     } in
     subst (IsBegun c.args.thread c.args.once c.args.call s)
     (sym (ap (λ (d : OpenCall). record m { calls = slice_set m.calls c.args.thread (Some d) }) c.begun.ensures

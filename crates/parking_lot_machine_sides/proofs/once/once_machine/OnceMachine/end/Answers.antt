@@ -13,7 +13,7 @@ invariant_of-self g c =
       calls = c.self.inside.calls.items;
       waiting = c.self.inside.waiting.items;
       wakes = c.self.inside.wakes.items;
-      inside = c.self.inside.inside;
+      inside = c.self.inside.inside.items;
     } in (
       subst (λ d. Fits (record s { calls = slice_set s.calls c.args.thread (Some d) })) (sym c.ran.ensures)
           (ended_fits s c.args.thread c.args.call c.self.invariant.0
@@ -35,7 +35,7 @@ invariant_of-self-in-Completed g c =
       calls = c.self.inside.calls.items;
       waiting = c.self.inside.waiting.items;
       wakes = c.self.inside.wakes.items;
-      inside = c.self.inside.inside;
+      inside = c.self.inside.inside.items;
     } in (
       ended_fits s c.args.thread c.args.call c.self.invariant.0
           (held c.args.thread c.args.call c.self.view_is c.requires.here) c.requires.asked.0 c.requires.asked.1
@@ -56,7 +56,7 @@ invariant_of-self-in-Poisoned g c =
       calls = c.self.inside.calls.items;
       waiting = c.self.inside.waiting.items;
       wakes = c.self.inside.wakes.items;
-      inside = c.self.inside.inside;
+      inside = c.self.inside.inside.items;
     } in (
       ended_fits s c.args.thread c.args.call c.self.invariant.0
           (held c.args.thread c.args.call c.self.view_is c.requires.here) c.requires.asked.0 c.requires.asked.1
@@ -77,7 +77,7 @@ invariant_of-self-in-Finished g c =
       calls = c.self.inside.calls.items;
       waiting = c.self.inside.waiting.items;
       wakes = c.self.inside.wakes.items;
-      inside = c.self.inside.inside;
+      inside = c.self.inside.inside.items;
     } in (
       ended_fits s c.args.thread c.args.call c.self.invariant.0
           (held c.args.thread c.args.call c.self.view_is c.requires.here) c.requires.asked.0 c.requires.asked.1

@@ -13,7 +13,7 @@ invariant_of-result g c =
       calls = c.in_ok-vec-2.field-0.items;
       waiting = c.in_ok-with_capacity.field-0.items;
       wakes = c.in_ok-with_capacity-2.field-0.items;
-      inside = None;
+      inside = c.in_ok-vec-3.field-0.items;
     } in
     let is : now ≡ at_rest c.args.threads c.args.onces = search rules in
     let one : length c.in_ok-vec-2.field-0.items ≤ vec_capacity c.in_ok-with_capacity.field-0 =

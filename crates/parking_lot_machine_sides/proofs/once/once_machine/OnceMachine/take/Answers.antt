@@ -21,7 +21,7 @@ invariant_of-self g c =
       calls = c.self.inside.calls.items;
       waiting = c.self.inside.waiting.items;
       wakes = c.self.inside.wakes.items;
-      inside = c.self.inside.inside;
+      inside = c.self.inside.inside.items;
     } in
     let scans = takes_is c.args.call.core.phase c.requires.asked.0 c.requires.asked.1 in
     let none = nobody c.args.call.once s.waiting
@@ -40,7 +40,7 @@ index_mut-requires-2 g c =
       calls = c.self.inside.calls.items;
       waiting = c.self.inside.waiting.items;
       wakes = c.self.inside.wakes.items;
-      inside = c.self.inside.inside;
+      inside = c.self.inside.inside.items;
     } in
     let scans = takes_is c.args.call.core.phase c.requires.asked.0 c.requires.asked.1 in
     let first = found c.args.call.once s.waiting c.in-Some.at
@@ -65,7 +65,7 @@ returns g c =
       calls = c.self.inside.calls.items;
       waiting = c.self.inside.waiting.items;
       wakes = c.self.inside.wakes.items;
-      inside = c.self.inside.inside;
+      inside = c.self.inside.inside.items;
     } in
     let at : position (is_in c.args.call.once) s.waiting ≡ Some c.in-Some.at =
     sym (c.first_of.ensures ∙ ap (position (is_in c.args.call.once)) c.deref.ensures.value) ∙ c.in-Some.is in
@@ -90,7 +90,7 @@ invariant_of-self-2 g c =
       calls = c.self.inside.calls.items;
       waiting = c.self.inside.waiting.items;
       wakes = c.self.inside.wakes.items;
-      inside = c.self.inside.inside;
+      inside = c.self.inside.inside.items;
     } in
     let scans = takes_is c.args.call.core.phase c.requires.asked.0 c.requires.asked.1 in
     let at : position (is_in c.args.call.once) s.waiting ≡ Some c.in-Some.at =

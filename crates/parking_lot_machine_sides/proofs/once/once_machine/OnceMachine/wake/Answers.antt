@@ -19,7 +19,7 @@ index_mut-requires g c =
       calls = c.self.inside.calls.items;
       waiting = c.self.inside.waiting.items;
       wakes = c.self.inside.wakes.items;
-      inside = c.self.inside.inside;
+      inside = c.self.inside.inside.items;
     } in
     let count = wakes_is c.args.call.core.phase c.requires.asked in
     let first = found c.args.thread s.wakes c.in-Some.at
@@ -44,7 +44,7 @@ returns g c =
       calls = c.self.inside.calls.items;
       waiting = c.self.inside.waiting.items;
       wakes = c.self.inside.wakes.items;
-      inside = c.self.inside.inside;
+      inside = c.self.inside.inside.items;
     } in
     let at : position (is_in c.args.thread) s.wakes ≡ Some c.in-Some.at =
     sym (c.first_of.ensures ∙ ap (position (is_in c.args.thread)) c.deref.ensures.value) ∙ c.in-Some.is in
@@ -65,7 +65,7 @@ invariant_of-self g c =
       calls = c.self.inside.calls.items;
       waiting = c.self.inside.waiting.items;
       wakes = c.self.inside.wakes.items;
-      inside = c.self.inside.inside;
+      inside = c.self.inside.inside.items;
     } in
     let count = wakes_is c.args.call.core.phase c.requires.asked in
     let at : position (is_in c.args.thread) s.wakes ≡ Some c.in-Some.at =
