@@ -3,9 +3,8 @@ ghost use Rattle.std.specs.Prelude.{◌≡◌, ◌<◌, ◌↔◌, ◌⊎◌, �
 ghost use Rattle.parking_lot_core_model.specs.declared.fault.SizeFault.TheVariants.{BadSize};
 ghost use Rattle.parking_lot_machine_sides.specs.Once.OnceActs.{at_rest};
 
-use crate::buckets::buckets_for;
 use crate::once::once_machine::OnceMachine;
-use parking_lot_core_model::SizeFault;
+use parking_lot_core_model::{SizeFault, buckets_for};
 use std::alloc::Allocator;
 
 /// The most threads.
