@@ -237,9 +237,9 @@ impl<R: Drop> Case<R> for Next {
 #[test]
 fn a_refused_growth_changes_nothing(rt: HostRuntime) {
     for (next, growths) in [
-        (Next(5, 16, 32), 1),
+        (Next(5, 16, 32), 3),
         (Next(8, 32, 32), 3),
-        (Next(10, 32, 64), 1),
+        (Next(10, 32, 64), 3),
         (Next(16, 64, 64), 3),
     ] {
         let refused = make_in_turn(rt, rt.alloc(), next).unwrap_or(0);
@@ -259,7 +259,7 @@ fn is_told_last(heap: &Heap, lot: &mut Lot<&Heap>) -> Option<bool> {
 }
 
 /// How many growths five threads ask for.
-const FIVE_ASK: u64 = 7;
+const FIVE_ASK: u64 = 8;
 
 #[test]
 fn want_of_memory_is_told_last(rt: HostRuntime) -> Result<(), Fail> {
