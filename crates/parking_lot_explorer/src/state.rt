@@ -60,11 +60,9 @@ pub struct WorldState {
     seats: Three<Seat>,
     answers: Three<Option<LockAnswer>>,
     wakes: Three<Option<Wake>>,
-    /// Who is inside of a section of a once.
-    inside: Option<usize>,
-    /// Whether a section of a lock or of a condition variable is open.
-    pub is_open: bool,
-    /// How many sections of locks are open. The keys of three locks are of different buckets.
+    /// Who is inside of a section of a once, by the once. The keys of three locks are of different buckets.
+    inside: Three<Option<usize>>,
+    /// In how many buckets a section of a lock or of a condition variable is open.
     pub open_sections: usize,
     pub locks: [LockShown; 3],
     pub debts: Vec<usize>,
@@ -81,10 +79,9 @@ fn wakes_of(world: &World, counts: bool) -> Three<Option<Wake>> {
     Three(at(0), at(1), at(2))
 }
 
-/// How many of the keys of three locks have a section that is open.
+/// In how many of the buckets of the keys of three locks a section is open.
 fn open_sections(world: &World) -> usize {
-    let lot = world.waits().rows().lot();
-    (0..6).filter(|key| lot.is_entered(*key)).count()
+    (0..6).filter(|key| world.waits().is_shut(*key)).count()
 }
 
 fn locks_of(alloc: Global, world: &World) -> Result<[LockShown; 3], SizeFault> {
@@ -99,12 +96,12 @@ impl WorldState {
     /// Of a world, and how often its threads have slept where that counts.
     pub(crate) fn of(alloc: Global, world: &World, counts: bool) -> Result<WorldState, SizeFault> {
         let seat = |thread| Seat::of(world, thread, counts);
+        let inside = |lock| world.onces().inside(lock);
         Ok(WorldState {
             seats: Three(seat(0), seat(1), seat(2)),
             answers: Three(world.answer(0), world.answer(1), world.answer(2)),
             wakes: wakes_of(world, counts),
-            inside: world.onces().inside(),
-            is_open: world.waits().is_open(),
+            inside: Three(inside(0), inside(1), inside(2)),
             open_sections: open_sections(world),
             locks: locks_of(alloc, world)?,
             debts: world.debts()?,

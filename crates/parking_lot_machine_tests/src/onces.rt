@@ -107,3 +107,39 @@ fn one_waits_for_another(rt: HostRuntime) -> Result<(), Fail> {
     ];
     follow(&rt, 2, &script)
 }
+
+/// A thread waits at a once until it is inside of a section of its bucket. Answers whether it comes there.
+fn enters(machine: &mut OnceMachine, thread: usize, once: usize) -> bool {
+    if machine.may_begin(thread, once) {
+        machine.begin(thread, once, OnceCall::OnceWait);
+    }
+    for _ in 0..50 {
+        if machine.inside(once) == Some(thread) {
+            return true;
+        }
+        if machine.can_move(thread) {
+            let _ = machine.step(thread);
+        }
+    }
+    false
+}
+
+/// Three threads have 16 buckets: once 8 has the key 16, and is of the bucket of once 0.
+#[test]
+fn sections_keep_out_those_of_their_buckets(rt: HostRuntime) -> Result<(), Fail> {
+    let mut machine = OnceMachine::new(&rt.alloc(), 3, 9)?;
+    assert!(rt; enters(&mut machine, 0, 0), "the first one's is open");
+    assert!(rt;
+        enters(&mut machine, 1, 1),
+        "and the second one's beside it"
+    );
+    assert!(rt; !enters(&mut machine, 2, 8), "the last one's isn't");
+    assert!(rt;
+        goes(&mut machine, 0).is_none(),
+        "the first thread leaves it"
+    );
+    assert!(rt; machine.is_asleep(0), "and sleeps");
+    assert!(rt; enters(&mut machine, 2, 8), "now the last one's is");
+    assert!(rt; machine.inside(1) == Some(1), "beside the second one's");
+    Ok(())
+}

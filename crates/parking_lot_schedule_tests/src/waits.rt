@@ -24,7 +24,7 @@ const NONE: Calls = [None; 3];
 #[derive(Clone, Copy)]
 struct Found {
     states: u64,
-    /// Whether sections of two locks were open at once.
+    /// Whether sections were open in two buckets at once. A notification's is in two.
     beside: bool,
 }
 

@@ -37,7 +37,7 @@ impl Moment<'_> {
             let mutex = self.waits_with(*thread).map(|mutex| mutex as u64);
             mutex == shown.checked_sub(1)
         });
-        self.world.is_open || is_settled && fits
+        self.world.open_sections > 0 || is_settled && fits
     }
 
     /// In no call it owns what its calls have left it.
@@ -103,7 +103,7 @@ impl Moment<'_> {
     /// Nobody is in debt, no section is open, and the words are what owners and waiters make of them.
     fn is_at_rest(self) -> bool {
         self.world.debts.is_empty()
-            && !self.world.is_open
+            && self.world.open_sections == 0
             && is_settled(self.mutex(M))
             && is_settled(self.mutex(OTHER))
     }

@@ -77,7 +77,7 @@ fn noted(
 pub struct WaitWatch {
     pub programs: Three<Calls>,
     pub threads: usize,
-    /// Whether sections of two locks were open at once.
+    /// Whether sections were open in two buckets at once.
     pub beside: bool,
 }
 
