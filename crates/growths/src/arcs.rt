@@ -3,6 +3,7 @@
 
 use lock_api::{ArcGuard, Mutex, ReentrantMutex, RwLock};
 use lock_api_guards::Hold;
+use lock_api_raw::{GetThreadId, RawMutexTimed, RawRwLockTimed, RawRwLockUpgradeTimed};
 use lock_api_spin::{PackedLock, PackedMutex, Parties};
 use refusing_heap::{Case, Heap, Line, Said, Seen};
 use std::rt::Clock;
@@ -29,11 +30,11 @@ pub enum OfArc {
     Upgrades(Ask),
 }
 
-type Mutual<'h, R> = Arc<Mutex<PackedMutex<R>, u64>, &'h Heap>;
+type Mutual<'h, Q> = Arc<Mutex<Q, u64>, &'h Heap>;
 
-type Nested<'h, R> = Arc<ReentrantMutex<PackedMutex<R>, Parties, u64>, &'h Heap>;
+type Nested<'h, Q, G> = Arc<ReentrantMutex<Q, G, u64>, &'h Heap>;
 
-type Shared<'h, R> = Arc<RwLock<PackedLock<R>, u64>, &'h Heap>;
+type Shared<'h, Q> = Arc<RwLock<Q, u64>, &'h Heap>;
 
 fn short() -> Duration {
     Duration::from_millis(1)
@@ -62,48 +63,91 @@ where
     }
 }
 
-fn lock<R: Wait + Clock + Drop>(rt: &R, lock: &Mutual<'_, R>, ask: Ask, now: Instant) -> Said {
+fn lock<Q: RawMutexTimed<Duration = Duration, Instant = Instant> + Drop, C: Clock>(
+    clock: &C,
+    lock: &Mutual<'_, Q>,
+    ask: Ask,
+    now: Instant,
+    party: &mut Q::Party,
+) -> Said
+where
+    Q::Runtime: Wait,
+{
     match ask {
-        Ask::Waits => waited(Mutex::lock_arc(lock, &mut 1)),
+        Ask::Waits => waited(Mutex::lock_arc(lock, party)),
         Ask::Tries => tried(Mutex::try_lock_arc(lock)),
-        Ask::For => tried(Mutex::try_lock_arc_for(lock, short(), rt, &mut 1)),
-        Ask::Until => tried(Mutex::try_lock_arc_until(lock, now, rt, &mut 1)),
+        Ask::For => tried(Mutex::try_lock_arc_for(lock, short(), clock, party)),
+        Ask::Until => tried(Mutex::try_lock_arc_until(lock, now, clock, party)),
     }
 }
 
-fn nest<R: Wait + Clock + Drop>(rt: &R, lock: &Nested<'_, R>, ask: Ask, now: Instant) -> Said {
+fn nest<
+    Q: RawMutexTimed<Duration = Duration, Instant = Instant> + Drop,
+    G: GetThreadId<Party = Q::Party> + Drop,
+    C: Clock,
+>(clock: &C, lock: &Nested<'_, Q, G>, ask: Ask, now: Instant, party: &mut Q::Party) -> Said
+where
+    Q::Runtime: Wait,
+{
     match ask {
-        Ask::Waits => waited(ReentrantMutex::lock_arc(lock, &mut 1)),
-        Ask::Tries => tried(ReentrantMutex::try_lock_arc(lock, &mut 1)),
-        Ask::For => tried(ReentrantMutex::try_lock_arc_for(lock, short(), rt, &mut 1)),
-        Ask::Until => tried(ReentrantMutex::try_lock_arc_until(lock, now, rt, &mut 1)),
+        Ask::Waits => waited(ReentrantMutex::lock_arc(lock, party)),
+        Ask::Tries => tried(ReentrantMutex::try_lock_arc(lock, party)),
+        Ask::For => tried(ReentrantMutex::try_lock_arc_for(lock, short(), clock, party)),
+        Ask::Until => tried(ReentrantMutex::try_lock_arc_until(lock, now, clock, party)),
     }
 }
 
-fn read<R: Wait + Clock + Drop>(rt: &R, lock: &Shared<'_, R>, ask: Ask, now: Instant) -> Said {
+fn read<Q: RawRwLockTimed<Duration = Duration, Instant = Instant> + Drop, C: Clock>(
+    clock: &C,
+    lock: &Shared<'_, Q>,
+    ask: Ask,
+    now: Instant,
+    party: &mut Q::Party,
+) -> Said
+where
+    Q::Runtime: Wait,
+{
     match ask {
-        Ask::Waits => waited(RwLock::read_arc(lock, &mut 1)),
+        Ask::Waits => waited(RwLock::read_arc(lock, party)),
         Ask::Tries => tried(RwLock::try_read_arc(lock)),
-        Ask::For => tried(RwLock::try_read_arc_for(lock, short(), rt, &mut 1)),
-        Ask::Until => tried(RwLock::try_read_arc_until(lock, now, rt, &mut 1)),
+        Ask::For => tried(RwLock::try_read_arc_for(lock, short(), clock, party)),
+        Ask::Until => tried(RwLock::try_read_arc_until(lock, now, clock, party)),
     }
 }
 
-fn write<R: Wait + Clock + Drop>(rt: &R, lock: &Shared<'_, R>, ask: Ask, now: Instant) -> Said {
+fn write<Q: RawRwLockTimed<Duration = Duration, Instant = Instant> + Drop, C: Clock>(
+    clock: &C,
+    lock: &Shared<'_, Q>,
+    ask: Ask,
+    now: Instant,
+    party: &mut Q::Party,
+) -> Said
+where
+    Q::Runtime: Wait,
+{
     match ask {
-        Ask::Waits => waited(RwLock::write_arc(lock, &mut 1)),
+        Ask::Waits => waited(RwLock::write_arc(lock, party)),
         Ask::Tries => tried(RwLock::try_write_arc(lock)),
-        Ask::For => tried(RwLock::try_write_arc_for(lock, short(), rt, &mut 1)),
-        Ask::Until => tried(RwLock::try_write_arc_until(lock, now, rt, &mut 1)),
+        Ask::For => tried(RwLock::try_write_arc_for(lock, short(), clock, party)),
+        Ask::Until => tried(RwLock::try_write_arc_until(lock, now, clock, party)),
     }
 }
 
-fn upgrade<R: Wait + Clock + Drop>(rt: &R, lock: &Shared<'_, R>, ask: Ask, now: Instant) -> Said {
+fn upgrade<Q: RawRwLockUpgradeTimed<Duration = Duration, Instant = Instant> + Drop, C: Clock>(
+    clock: &C,
+    lock: &Shared<'_, Q>,
+    ask: Ask,
+    now: Instant,
+    party: &mut Q::Party,
+) -> Said
+where
+    Q::Runtime: Wait,
+{
     match ask {
-        Ask::Waits => waited(RwLock::upgradable_read_arc(lock, &mut 1)),
+        Ask::Waits => waited(RwLock::upgradable_read_arc(lock, party)),
         Ask::Tries => tried(RwLock::try_upgradable_read_arc(lock)),
-        Ask::For => tried(RwLock::try_upgradable_read_arc_for(lock, short(), rt, &mut 1)),
-        Ask::Until => tried(RwLock::try_upgradable_read_arc_until(lock, now, rt, &mut 1)),
+        Ask::For => tried(RwLock::try_upgradable_read_arc_for(lock, short(), clock, party)),
+        Ask::Until => tried(RwLock::try_upgradable_read_arc_until(lock, now, clock, party)),
     }
 }
 
@@ -116,26 +160,26 @@ fn in_arc<T: Drop, E: Drop>(heap: &Heap, lock: Result<T, E>) -> Option<Arc<T, &H
 
 fn on_mutex<R: Wait + Clock + Copy + Drop>(rt: R, heap: &Heap, ask: Ask) -> Option<Seen> {
     let now = Instant::now(&rt).ok()?;
-    let mutex = in_arc(heap, Mutex::new(rt, 5))?;
+    let mutex: Mutual<'_, PackedMutex<R>> = in_arc(heap, Mutex::new(rt, 5))?;
     let before = heap.asked();
-    lock(&rt, &mutex, ask, now).seen(heap, before, !mutex.is_locked())
+    lock(&rt, &mutex, ask, now, &mut 1).seen(heap, before, !mutex.is_locked())
 }
 
 fn on_nested<R: Wait + Clock + Copy + Drop>(rt: R, heap: &Heap, ask: Ask) -> Option<Seen> {
     let now = Instant::now(&rt).ok()?;
-    let mutex = in_arc(heap, ReentrantMutex::new(rt, 2, 5))?;
+    let mutex: Nested<'_, PackedMutex<R>, Parties> = in_arc(heap, ReentrantMutex::new(rt, 2, 5))?;
     let before = heap.asked();
-    nest(&rt, &mutex, ask, now).seen(heap, before, !mutex.is_locked())
+    nest(&rt, &mutex, ask, now, &mut 1).seen(heap, before, !mutex.is_locked())
 }
 
 fn on_lock<R: Wait + Clock + Copy + Drop>(rt: R, heap: &Heap, call: OfArc) -> Option<Seen> {
     let now = Instant::now(&rt).ok()?;
-    let lock = in_arc(heap, RwLock::new(rt, 4, 5))?;
+    let lock: Shared<'_, PackedLock<R>> = in_arc(heap, RwLock::new(rt, 4, 5))?;
     let before = heap.asked();
     let said = match call {
-        OfArc::Reads(ask) => read(&rt, &lock, ask, now),
-        OfArc::Writes(ask) => write(&rt, &lock, ask, now),
-        OfArc::Upgrades(ask) => upgrade(&rt, &lock, ask, now),
+        OfArc::Reads(ask) => read(&rt, &lock, ask, now, &mut 1),
+        OfArc::Writes(ask) => write(&rt, &lock, ask, now, &mut 1),
+        OfArc::Upgrades(ask) => upgrade(&rt, &lock, ask, now, &mut 1),
         _ => Said::Other,
     };
     said.seen(heap, before, !lock.is_locked())

@@ -1,6 +1,6 @@
 //! Maps and views that are taken apart in parallel, and the calls of views.
 
-use crate::rows::{EACH, Map, Me, On, Row, Rows, Table, map_of, put};
+use crate::rows::{EACH, Map, On, Rows, map_of, put};
 use dashmap_plain::clones::CloneView;
 use dashmap_plain::{Plain, ReadOnlyView};
 use dashmap_table::{MapFault, NoMemory, SpreadState};
@@ -20,11 +20,14 @@ pub enum Viewed {
 
 type View<'h, Q> = ReadOnlyView<u64, u64, SpreadState, Q, &'h Heap>;
 
-fn two<'t, 'l, 'h, R: Wait>(
+fn two<'h, Q: RawRwLock + MakeLock<T> + Drop, T: Rows + Drop>(
     heap: &'h Heap,
-    table: &'t Table<'l, R>,
-    me: &mut Me,
-) -> Option<Map<'h, Row<'t, 'l, R>>> {
+    table: T,
+    me: &mut Q::Party,
+) -> Option<Map<'h, Q>>
+where
+    Q::Runtime: Wait,
+{
     let map = map_of(heap, table).ok()?;
     put(&map, 2, me);
     Some(map)
@@ -44,14 +47,18 @@ fn collect_owned<Q: RawRwLock + Drop, R: Threads + Sync>(
     )
 }
 
-pub fn collect_all<R: Wait + Threads + Sync + Send>(
+pub fn collect_all<Q: RawRwLock + MakeLock<T> + Drop, T: Rows + Drop, R: Threads + Sync>(
     heap: &Heap,
-    table: &Table<'_, R>,
-    me: &mut Me,
-) -> Option<Seen> {
-    let map = two(heap, table, me)?;
+    rt: &R,
+    table: T,
+    me: &mut Q::Party,
+) -> Option<Seen>
+where
+    Q::Runtime: Wait,
+{
+    let map: Map<'_, Q> = two(heap, table, me)?;
     let before = heap.asked();
-    let said = collect_owned(heap, table.lot().runtime(), map);
+    let said = collect_owned(heap, rt, map);
     Seen::of(before, heap.asked(), said.may_fit(heap) && table.are_free())
 }
 
@@ -103,37 +110,32 @@ fn ask_view<Q: RawRwLock + MakeLock<T> + Drop, T: Copy + Drop, R: Threads + Sync
     Seen::of(before, behind, is_right)
 }
 
-/// Collects the keys of a view that goes.
-fn own_view<R: Wait + Threads + Sync + Send>(
-    heap: &Heap,
-    table: &Table<'_, R>,
-    me: &mut Me,
-) -> Option<Seen> {
-    let view = two(heap, table, me)?.into_read_only().ok()?;
-    let before = heap.asked();
-    let said = collect_view(heap, table.lot().runtime(), view);
-    Seen::of(before, heap.asked(), said.may_fit(heap))
-}
-
 /// Makes a call on a view, or collects the keys of one that goes.
-pub fn with_view<R: Wait + Threads + Sync + Send>(
+pub fn with_view<Q: RawRwLock + MakeLock<T> + Drop, T: Rows + Drop, R: Threads + Sync>(
     heap: &Heap,
-    table: &Table<'_, R>,
-    me: &mut Me,
+    rt: &R,
+    table: T,
+    me: &mut Q::Party,
     call: Viewed,
-) -> Option<Seen> {
+) -> Option<Seen>
+where
+    Q::Runtime: Wait,
+{
+    let map: Map<'_, Q> = two(heap, table, me)?;
+    let view = map.into_read_only().ok()?;
     if let Viewed::OwnedMapCollect = call {
-        return own_view(heap, table, me);
+        let before = heap.asked();
+        let said = collect_view(heap, rt, view);
+        return Seen::of(before, heap.asked(), said.may_fit(heap));
     }
-    let view = two(heap, table, me)?.into_read_only().ok()?;
-    ask_view(heap, table, table.lot().runtime(), &view, call)
+    ask_view(heap, table, rt, &view, call)
 }
 
-const COLLECT: On = On::View(Viewed::MapCollect);
+const COLLECT: On<'static> = On::View(Viewed::MapCollect);
 
-const COLLECT_ALL: On = On::View(Viewed::OwnedMapCollect);
+const COLLECT_ALL: On<'static> = On::View(Viewed::OwnedMapCollect);
 
-pub const VIEWS: &[Line<On>] = &[
+pub const VIEWS: &[Line<On<'static>>] = &[
     ("ReadOnlyView::clone", On::View(Viewed::Clone), EACH),
     ("PlainView::clone", On::View(Viewed::PlainClone), EACH),
     ("par_iter().map_collect of a view", COLLECT, EACH),

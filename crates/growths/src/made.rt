@@ -1,6 +1,6 @@
 //! How maps and sets are made, over a table of locks whose rows are counted.
 
-use crate::rows::{On, Row, Table, are_taken, keys, pairs};
+use crate::rows::{On, Rows, keys, pairs};
 use dashmap::set::DashSet;
 use dashmap_calls::Numbers;
 use dashmap_map::{DashMap, NewFault};
@@ -84,25 +84,28 @@ fn map_of<'h, Q: RawRwLock + MakeLock<T> + Drop, T: Copy + Drop>(
 }
 
 /// Makes a map. The rows that it took stay used, of a refused one too.
-pub fn make_map<R: RandomSource>(heap: &Heap, table: &Table<'_, R>, make: Make) -> Option<Seen> {
+pub fn make_map<Q: RawRwLock + MakeLock<T> + Drop, T: Rows + Drop>(
+    heap: &Heap,
+    table: T,
+    make: Make,
+) -> Option<Seen>
+where
+    Q::Runtime: RandomSource,
+{
     let pairs = pairs(heap)?;
     let before = heap.asked();
     let said = match make {
-        Make::New | Make::WithCapacity | Make::WithShards | Make::WithBoth => {
-            let map: Result<Map<'_, RandomState, Row<'_, '_, R>>, NewFault> = new_map(
-                heap, table, make,
-            );
-            made(map, NewFault::Map(MapFault::NoMemory))
-        }
-        _ => {
-            let map: Made<Map<'_, SpreadState, Row<'_, '_, R>>> = match make {
-                Make::Iter | Make::ParIter => map_of(heap, table, make, pairs),
-                _ => map_by(heap, table, make),
-            };
-            made(map, MapFault::NoMemory)
-        }
+        Make::New | Make::WithCapacity | Make::WithShards | Make::WithBoth => made(
+            new_map::<Q, T>(heap, table, make),
+            NewFault::Map(MapFault::NoMemory),
+        ),
+        Make::Iter | Make::ParIter => made(
+            map_of::<Q, T>(heap, table, make, pairs),
+            MapFault::NoMemory,
+        ),
+        _ => made(map_by::<Q, T>(heap, table, make), MapFault::NoMemory),
     };
-    said.seen(heap, before, are_taken(table, TAKEN))
+    said.seen(heap, before, table.are_taken(TAKEN))
 }
 
 fn new_set<'h, Q: RawRwLock + MakeLock<T> + Drop, T: Copy + Drop>(
@@ -144,32 +147,35 @@ fn set_of<'h, Q: RawRwLock + MakeLock<T> + Drop, T: Copy + Drop>(
 }
 
 /// Makes a set, as a map is made.
-pub fn make_set<R: RandomSource>(heap: &Heap, table: &Table<'_, R>, make: Make) -> Option<Seen> {
+pub fn make_set<Q: RawRwLock + MakeLock<T> + Drop, T: Rows + Drop>(
+    heap: &Heap,
+    table: T,
+    make: Make,
+) -> Option<Seen>
+where
+    Q::Runtime: RandomSource,
+{
     let keys = keys(heap)?;
     let before = heap.asked();
     let said = match make {
-        Make::New | Make::WithCapacity => {
-            let set: Result<Set<'_, RandomState, Row<'_, '_, R>>, NewFault> = new_set(
-                heap, table, make,
-            );
-            made(set, NewFault::Map(MapFault::NoMemory))
-        }
-        _ => {
-            let set: Made<Set<'_, SpreadState, Row<'_, '_, R>>> = match make {
-                Make::Iter | Make::ParIter => set_of(heap, table, make, keys),
-                _ => set_by(heap, table, make),
-            };
-            made(set, MapFault::NoMemory)
-        }
+        Make::New | Make::WithCapacity => made(
+            new_set::<Q, T>(heap, table, make),
+            NewFault::Map(MapFault::NoMemory),
+        ),
+        Make::Iter | Make::ParIter => made(
+            set_of::<Q, T>(heap, table, make, keys),
+            MapFault::NoMemory,
+        ),
+        _ => made(set_by::<Q, T>(heap, table, make), MapFault::NoMemory),
     };
-    said.seen(heap, before, are_taken(table, TAKEN))
+    said.seen(heap, before, table.are_taken(TAKEN))
 }
 
 const ROWS: &str = "nothing is made; its rows of the table stay used";
 
 const ALL: &str = "with_capacity_and_hasher_and_shard_amount";
 
-pub const LINES: &[Line<On>] = &[
+pub const LINES: &[Line<On<'static>>] = &[
     ("new", On::Make(Make::New), ROWS),
     ("with_capacity", On::Make(Make::WithCapacity), ROWS),
     ("with_shard_amount", On::Make(Make::WithShards), ROWS),
@@ -191,7 +197,7 @@ pub const LINES: &[Line<On>] = &[
     ("from_par_iter, of 20 pairs", On::Make(Make::ParIter), ROWS),
 ];
 
-pub const OF_SETS: &[Line<On>] = &[
+pub const OF_SETS: &[Line<On<'static>>] = &[
     ("new", On::MakeSet(Make::New), ROWS),
     ("with_capacity", On::MakeSet(Make::WithCapacity), ROWS),
     ("with_hasher", On::MakeSet(Make::By), ROWS),

@@ -1,8 +1,8 @@
 //! Calls on maps as data.
 
-use crate::rows::{EACH, Map, Me, On, PAIR, Row, Rows, Table, map_of};
+use crate::rows::{EACH, Map, On, PAIR, Rows, map_of};
 use dashmap_calls::{Answer, Call, Keyed, Many, Operator, Place, Try, Walk, make};
-use lock_api_raw::RawRwLock;
+use lock_api_raw::{MakeLock, RawRwLock};
 use refusing_heap::{Heap, Line, Seen, refused_growth};
 use std::sync::Wait;
 
@@ -67,13 +67,16 @@ where
 }
 
 /// Makes the call on a new map.
-pub fn ask_map<R: Wait>(
+pub fn ask_map<Q: RawRwLock + MakeLock<T> + Drop, T: Rows + Drop>(
     heap: &Heap,
-    table: &Table<'_, R>,
-    me: &mut Me,
+    table: T,
+    me: &mut Q::Party,
     call: OnMap<'_>,
-) -> Option<Seen> {
-    let map: Map<'_, Row<'_, '_, R>> = map_of(heap, table).ok()?;
+) -> Option<Seen>
+where
+    Q::Runtime: Wait,
+{
+    let map: Map<'_, Q> = map_of(heap, table).ok()?;
     look(heap, table, &map, me, call)
 }
 
@@ -126,21 +129,21 @@ const ITEMS: &str = "the items before it; the walk is over; no hold";
 
 const TAKES_NONE: &str = "takes none";
 
-const INTO_NEW: On = On::Map(OnMap(NEW, PUT, NONE, BACK));
+const INTO_NEW: On<'static> = On::Map(OnMap(NEW, PUT, NONE, BACK));
 
-const INTO_FULL: On = On::Map(OnMap(FULL, PUT_LAST, NONE, LAST_BACK));
+const INTO_FULL: On<'static> = On::Map(OnMap(FULL, PUT_LAST, NONE, LAST_BACK));
 
-const PRESENT: On = On::Map(OnMap(TWO, PUT, ONE, &[]));
+const PRESENT: On<'static> = On::Map(OnMap(TWO, PUT, ONE, &[]));
 
-const ENTERED: On = On::Map(OnMap(NEW, ENTRY, Answer::Number(9), KEY_BACK));
+const ENTERED: On<'static> = On::Map(OnMap(NEW, ENTRY, Answer::Number(9), KEY_BACK));
 
-const READ: On = On::Map(OnMap(TWO, ITER, MET, STOPS));
+const READ: On<'static> = On::Map(OnMap(TWO, ITER, MET, STOPS));
 
-const WRITTEN: On = On::Map(OnMap(TWO, ITER_MUT, Answer::Number(2), &[]));
+const WRITTEN: On<'static> = On::Map(OnMap(TWO, ITER_MUT, Answer::Number(2), &[]));
 
-const SHRUNK: On = On::Map(OnMap(ROOM, Call::ShrinkToFit, YES, NO));
+const SHRUNK: On<'static> = On::Map(OnMap(ROOM, Call::ShrinkToFit, YES, NO));
 
-pub const LINES: &[Line<On>] = &[
+pub const LINES: &[Line<On<'static>>] = &[
     ("insert, into a new shard", INTO_NEW, PAIR),
     ("insert, into a full shard", INTO_FULL, PAIR),
     ("insert, of a key that is there", PRESENT, TAKES_NONE),

@@ -3,16 +3,16 @@
 
 use crate::costly::Costly;
 use crate::rows::{
-    EACH, FROM, MIDDLE, Map, Me, On, PAIR, Row, Rows, SHARDS, TO, Table, Team, are_taken, count,
-    map_of, pairs, put,
+    EACH, FROM, MIDDLE, Map, On, PAIR, Rows, SHARDS, TO, Team, count, map_of, pairs, put,
 };
 use dashmap_calls::{Answer, Call, Keyed, make};
+use dashmap_map::mapref::entry::Entry;
 use dashmap_map::{DashMap, UntilFault};
 use dashmap_parallel::{ParExtendFault, ParallelMap, par_extend_shared};
 use dashmap_plain::clones::CloneMap;
 use dashmap_plain::par_extend;
 use dashmap_table::{MapFault, NoMemory, SpreadState};
-use lock_api_raw::{MakeLock, RawRwLock};
+use lock_api_raw::{MakeLock, RawRwLock, RawRwLockTimed};
 use refusing_heap::{Heap, Line, Said, Seen, listed, made, refused_growth};
 use std::rt::Clock;
 use std::sync::Wait;
@@ -164,12 +164,15 @@ where
 }
 
 /// Inserts up to a moment that has come.
-fn insert_until<R: Wait + Clock>(
+fn insert_until<Q: RawRwLockTimed<Instant = Instant>, R: Clock>(
     rt: &R,
-    map: &Map<'_, Row<'_, '_, R>>,
-    me: &mut Me,
+    map: &Map<'_, Q>,
+    me: &mut Q::Party,
     moment: Instant,
-) -> Came {
+) -> Came
+where
+    Q::Runtime: Wait,
+{
     match map.insert_until(5, 7, moment, rt, me) {
         Ok(old) => Came::Inserted(Ok(old)),
         Err(UntilFault::NoMemory(pair)) => Came::Inserted(Err(pair)),
@@ -177,51 +180,85 @@ fn insert_until<R: Wait + Clock>(
     }
 }
 
-/// Makes the call on an empty map, behind the insertions that it needs. What stands is looked at where no shard is
-/// held, since who asks for one that is waits.
-pub fn ask_owner<R: Wait + Threads + Clock + Sync + Send>(
-    heap: &Heap,
-    table: &Table<'_, R>,
-    team: &mut Team,
+/// Makes the call on an empty map that is lent, behind the insertions that it needs. What stands is looked at where no
+/// shard is held, since who asks for one that is waits.
+fn ask_on<
+    'h,
+    Q: RawRwLockTimed<Instant = Instant> + MakeLock<T> + Drop + Sync,
+    T: Rows + Drop,
+    R: Threads + Clock + Sync,
+>(
+    heap: &'h Heap,
+    rt: &R,
+    table: T,
+    map: &mut Map<'h, Q>,
+    team: &mut Team<Q::Party>,
     call: Owned,
-) -> Option<Seen> {
-    let rt = table.lot().runtime();
+) -> Option<Seen>
+where
+    Q::Runtime: Wait,
+    Q::Party: Send,
+{
     let now = Instant::now(rt).ok()?;
-    let mut map: Map<'_, Row<'_, '_, R>> = map_of(heap, table).ok()?;
     let is_empty = matches!(call, Owned::InsertMut | Owned::InsertUntil);
-    put(&map, if is_empty { 0 } else { 2 }, &mut team.me);
+    put(map, if is_empty { 0 } else { 2 }, &mut team.me);
     let before = heap.asked();
     let (before, came) = match call {
         Owned::Extend | Owned::ParExtend | Owned::ParExtendShared => {
-            extend(heap, rt, &mut map, &mut team.others, call)?
+            extend(heap, rt, map, &mut team.others, call)?
         }
-        Owned::InsertUntil => (before, insert_until(rt, &map, &mut team.me, now)),
+        Owned::InsertUntil => (before, insert_until(rt, map, &mut team.me, now)),
         Owned::MapCollect => (
             before,
-            Came::Other(collect(heap, rt, &map, &mut team.others)),
+            Came::Other(collect(heap, rt, map, &mut team.others)),
         ),
-        _ => (before, make_call(heap, table, &mut map, &mut team.me, call)),
+        _ => (before, make_call(heap, table, map, &mut team.me, call)),
     };
     let behind = heap.asked();
     let rows = if let Owned::Clone = call { 4 } else { 2 };
-    let stands = are_taken(table, rows) && compared(&map, came, &mut team.me).fits(heap);
+    let stands = table.are_taken(rows) && compared(map, came, &mut team.me).fits(heap);
     Seen::of(before, behind, stands)
+}
+
+/// Makes the call on a new map.
+pub fn ask_owner<
+    Q: RawRwLockTimed<Instant = Instant> + MakeLock<T> + Drop + Sync,
+    T: Rows + Drop,
+    R: Threads + Clock + Sync,
+>(heap: &Heap, rt: &R, table: T, team: &mut Team<Q::Party>, call: Owned) -> Option<Seen>
+where
+    Q::Runtime: Wait,
+    Q::Party: Send,
+{
+    let mut map: Map<'_, Q> = map_of(heap, table).ok()?;
+    ask_on(heap, rt, table, &mut map, team, call)
 }
 
 type Entries<'h, Q> = DashMap<Costly<'h>, u64, SpreadState, Q, &'h Heap>;
 
-/// What came of an insertion of 7 at the place of a new key that stays there: it clones the key. A refused entry
-/// still has its key, and the value comes back.
+/// What came of an insertion of 7 at a place. A refused entry still has its key, of this number, and the value comes
+/// back.
+fn inserted_at<'h, Q: RawRwLock>(
+    entry: Entry<'_, '_, Costly<'h>, u64, Q, &'h Heap>,
+    number: u64,
+) -> Said
+where
+    Q::Runtime: Wait,
+{
+    match entry.insert_entry(7) {
+        Ok(entry) => Said::of(*entry.get() == 7, false),
+        Err(back) => Said::of(false, back.1 == 7 && back.0.key().number() == number),
+    }
+}
+
+/// What came of an insertion of 7 at the place of a new key that stays there: it clones the key.
 fn enter<'h, Q: RawRwLock>(map: &Entries<'h, Q>, key: Costly<'h>, me: &mut Q::Party) -> Said
 where
     Q::Runtime: Wait,
 {
     let number = key.number();
     match map.entry(key, me) {
-        Ok(entry) => match entry.insert_entry(7) {
-            Ok(entry) => Said::of(*entry.get() == 7, false),
-            Err(back) => Said::of(false, back.1 == 7 && back.0.key().number() == number),
-        },
+        Ok(entry) => inserted_at(entry, number),
         Err(_key) => Said::Other,
     }
 }
@@ -243,8 +280,15 @@ where
     said.seen(heap, before, table.are_free() && map.len(me) == length)
 }
 
-pub fn insert_entry<R: Wait>(heap: &Heap, table: &Table<'_, R>, me: &mut Me) -> Option<Seen> {
-    let map: Entries<'_, Row<'_, '_, R>> = DashMap::with_hasher_and_shard_amount(
+pub fn insert_entry<Q: RawRwLock + MakeLock<T> + Drop, T: Rows + Drop>(
+    heap: &Heap,
+    table: T,
+    me: &mut Q::Party,
+) -> Option<Seen>
+where
+    Q::Runtime: Wait,
+{
+    let map: Entries<'_, Q> = DashMap::with_hasher_and_shard_amount(
         heap,
         SpreadState,
         SHARDS,
@@ -259,19 +303,19 @@ const ROWS: &str = "each pair; no hold; rows of the table stay used";
 
 const PUT: &str = "pairs that were put in; no hold";
 
-const RESERVED: On = On::Owned(Owned::TryReserve);
+const RESERVED: On<'static> = On::Owned(Owned::TryReserve);
 
-const BY_ALL: On = On::Owned(Owned::ParExtend);
+const BY_ALL: On<'static> = On::Owned(Owned::ParExtend);
 
-const SHARED: On = On::Owned(Owned::ParExtendShared);
+const SHARED: On<'static> = On::Owned(Owned::ParExtendShared);
 
-const COLLECTED: On = On::Owned(Owned::MapCollect);
+const COLLECTED: On<'static> = On::Owned(Owned::MapCollect);
 
 const STANDS: &str = "entry and value come back; each other pair; no hold";
 
 const CALL: &str = "entry(..).insert_entry";
 
-pub const LINES: &[Line<On>] = &[
+pub const LINES: &[Line<On<'static>>] = &[
     (CALL, On::InsertEntry, STANDS),
     ("insert_mut", On::Owned(Owned::InsertMut), PAIR),
     ("insert_until", On::Owned(Owned::InsertUntil), PAIR),
@@ -281,7 +325,7 @@ pub const LINES: &[Line<On>] = &[
     ("clone", On::Owned(Owned::Clone), ROWS),
 ];
 
-pub const FORMS: &[Line<On>] = &[
+pub const FORMS: &[Line<On<'static>>] = &[
     ("par_extend_shared, 20 pairs", SHARED, PUT),
     ("par_iter().map_collect", COLLECTED, EACH),
     ("into_par_iter().map_collect", On::Collect, "no list"),

@@ -1,11 +1,11 @@
 //! Recorded maps: their calls, and the gathering of what was written down.
 
-use crate::rows::{Me as Thread, On, Row, Rows, SHARDS, Table, are_taken};
+use crate::rows::{On, Rows, SHARDS};
 use dashmap_record::{
     Call, CallReply, Caller, Entered, GatherFault, RecordFault, Recorded, gather,
 };
 use dashmap_table::MapFault;
-use lock_api_raw::RawRwLock;
+use lock_api_raw::{MakeLock, RawRwLock};
 use refusing_heap::{Heap, Line, Said, Seen, listed, made};
 use std::hash::{BuildHasherDefault, FoldHasher};
 use std::sync::Wait;
@@ -125,54 +125,76 @@ fn gather_all<'h>(
     Some((before, listed(list, count, GatherFault::NoMemory)))
 }
 
-fn recorded<'t, 'l, 'h, R: Wait>(
+/// A new recorded map, and its only caller.
+fn recorded<'h, Q: RawRwLock + MakeLock<T> + Drop, T: Rows + Drop>(
     heap: &'h Heap,
-    table: &'t Table<'l, R>,
-) -> Option<(Small<'h, Row<'t, 'l, R>>, Me<'h>)> {
+    table: T,
+) -> Option<(Small<'h, Q>, Me<'h>)> {
     let (map, mut callers) = Recorded::new(heap, SHARDS, Fold::new(), 1, table).ok()?;
     Some((map, callers.pop()?))
 }
 
 /// Makes the call on a new recorded map, and looks at all that was written down.
-pub fn with_record<R: Wait>(
+pub fn with_record<Q: RawRwLock + MakeLock<T> + Drop, T: Rows + Drop>(
     heap: &Heap,
-    table: &Table<'_, R>,
-    td: &mut Thread,
+    table: T,
+    td: &mut Q::Party,
     call: OnRecord<'_>,
-) -> Option<Seen> {
-    let (map, mut me) = recorded(heap, table)?;
+) -> Option<Seen>
+where
+    Q::Runtime: Wait,
+{
+    let (map, mut me): (Small<'_, Q>, Me<'_>) = recorded(heap, table)?;
     let seen = ask(heap, table, &map, &mut me, td, call)?;
     let count = call.0.len().wrapping_add(1);
     let (_, said) = gather_all(heap, map.histories(), me.log(), count)?;
     seen.and(said == Said::Done)
 }
 
-/// Makes twelve calls, and gathers what was written down of them.
-pub fn gather_twelve<R: Wait>(heap: &Heap, table: &Table<'_, R>, td: &mut Thread) -> Option<Seen> {
-    let (map, mut me) = recorded(heap, table)?;
+/// Makes twelve calls.
+fn make_twelve<'h, Q: RawRwLock>(
+    map: &Small<'h, Q>,
+    me: &mut Me<'h>,
+    td: &mut Q::Party,
+) -> Option<()>
+where
+    Q::Runtime: Wait,
+{
     for key in 0..6 {
-        make_all(
-            &map,
-            &[Call::Insert(key, key), Call::GetCopied(key)],
-            &mut me,
-            td,
-        )?;
+        make_all(map, &[Call::Insert(key, key), Call::GetCopied(key)], me, td)?;
     }
+    Some(())
+}
+
+/// Makes twelve calls, and gathers what was written down of them.
+pub fn gather_twelve<Q: RawRwLock + MakeLock<T> + Drop, T: Rows + Drop>(
+    heap: &Heap,
+    table: T,
+    td: &mut Q::Party,
+) -> Option<Seen>
+where
+    Q::Runtime: Wait,
+{
+    let (map, mut me): (Small<'_, Q>, Me<'_>) = recorded(heap, table)?;
+    make_twelve(&map, &mut me, td)?;
     let (before, said) = gather_all(heap, map.histories(), me.log(), 12)?;
     said.seen(heap, before, true)
 }
 
 /// Makes a recorded map. The rows that it took stay used, of a refused one too.
-pub fn make_record<R: Wait>(heap: &Heap, table: &Table<'_, R>) -> Option<Seen> {
+pub fn make_record<Q: RawRwLock + MakeLock<T> + Drop, T: Rows + Drop>(
+    heap: &Heap,
+    table: T,
+) -> Option<Seen> {
     let before = heap.asked();
-    let map: Result<(Small<'_, Row<'_, '_, R>>, Vec<Me<'_>, &Heap>), MapFault> = Recorded::new(
+    let map: Result<(Small<'_, Q>, Vec<Me<'_>, &Heap>), MapFault> = Recorded::new(
         heap,
         SHARDS,
         Fold::new(),
         2,
         table,
     );
-    made(map, MapFault::NoMemory).seen(heap, before, are_taken(table, SHARDS))
+    made(map, MapFault::NoMemory).seen(heap, before, table.are_taken(SHARDS))
 }
 
 const FOUR: &[Call<u64, u64>] = &[
@@ -188,21 +210,21 @@ const REPLACE: Call<u64, u64> = Call::ReplaceIf(1, 5, 6);
 
 const FIVE: CallReply<u64, u64> = CallReply::Value(5);
 
-const INTO_NEW: On = On::Record(OnRecord(&[], PUT, CallReply::None));
+const INTO_NEW: On<'static> = On::Record(OnRecord(&[], PUT, CallReply::None));
 
-const PRESENT: On = On::Record(OnRecord(FOUR, PUT, FIVE));
+const PRESENT: On<'static> = On::Record(OnRecord(FOUR, PUT, FIVE));
 
-const REMOVED: On = On::Record(OnRecord(FOUR, Call::Remove(1), CallReply::Pair(1, 5)));
+const REMOVED: On<'static> = On::Record(OnRecord(FOUR, Call::Remove(1), CallReply::Pair(1, 5)));
 
-const GOT: On = On::Record(OnRecord(FOUR, Call::GetCopied(1), FIVE));
+const GOT: On<'static> = On::Record(OnRecord(FOUR, Call::GetCopied(1), FIVE));
 
-const REPLACED: On = On::Record(OnRecord(FOUR, REPLACE, CallReply::Flag(true)));
+const REPLACED: On<'static> = On::Record(OnRecord(FOUR, REPLACE, CallReply::Flag(true)));
 
 const KEPT: &str = "log, history, stamps, pairs; no hold";
 
 const ROWS: &str = "no map; its rows of the table stay used";
 
-pub const LINES: &[Line<On>] = &[
+pub const LINES: &[Line<On<'static>>] = &[
     ("insert, of a new key", INTO_NEW, KEPT),
     ("insert, of a key that is there", PRESENT, KEPT),
     ("remove", REMOVED, KEPT),
@@ -210,7 +232,7 @@ pub const LINES: &[Line<On>] = &[
     ("replace_if", REPLACED, KEPT),
 ];
 
-pub const WHOLE: &[Line<On>] = &[
+pub const WHOLE: &[Line<On<'static>>] = &[
     ("Recorded::new", On::MakeRecord, ROWS),
     ("gather, of twelve calls", On::Gather, "no history"),
 ];

@@ -9,8 +9,8 @@ use crate::sets::{OnSet, with_set};
 use dashmap_calls::{Answer, Call, Many, Numbers, make as answer};
 use dashmap_map::DashMap;
 use dashmap_table::{MapFault, SpreadState};
-use lock_api_raw::{MakeLock, RawRwLock};
-use parking_lot_core::{ParkingLot, ThreadData};
+use lock_api_raw::{MakeLock, RawRwLock, RawRwLockTimed};
+use parking_lot_core::ParkingLot;
 use parking_lot_rwlock::{self as running, LockTable};
 use refusing_heap::{Heap, Line, Refusal, RefusingHeap, Seen, Wrong, print_line};
 use std::alloc::{Allocator, Global};
@@ -18,13 +18,12 @@ use std::random::RandomSource;
 use std::rt::Clock;
 use std::sync::Wait;
 use std::thread::Threads;
+use std::time::Instant;
 
-pub type Table<'l, R> = LockTable<'l, R>;
-
-pub type Me = ThreadData;
+type Table<'l, R> = LockTable<'l, R>;
 
 /// The lock of a shard.
-pub type Row<'t, 'l, R> = running::RawRwLock<'t, 'l, R, 0, Global>;
+type Row<'t, 'l, R> = running::RawRwLock<'t, 'l, R, 0, Global>;
 
 pub type Map<'h, Q> = Numbers<SpreadState, Q, &'h Heap>;
 
@@ -44,16 +43,16 @@ pub const TO: u64 = 30;
 
 /// A thread, and two others for parallel forms.
 #[derive(Drop)]
-pub struct Team {
-    pub me: ThreadData,
-    pub others: Vec<ThreadData>,
+pub struct Team<P> {
+    pub me: P,
+    pub others: Vec<P>,
 }
 
 #[derive(Clone, Copy)]
-pub enum On {
+pub enum On<'a> {
     Make(Make),
     MakeSet(Make),
-    Map(OnMap<'static>),
+    Map(OnMap<'a>),
     Owned(Owned),
     /// Of an entry whose key is a text.
     InsertEntry,
@@ -61,7 +60,7 @@ pub enum On {
     Collect,
     View(Viewed),
     Set(OnSet),
-    Record(OnRecord<'static>),
+    Record(OnRecord<'a>),
     MakeRecord,
     Gather,
 }
@@ -111,11 +110,19 @@ where
 
 /// A table of locks whose rows are looked at.
 pub trait Rows: Copy {
+    /// The lock of a row.
+    type Lock: RawRwLock;
+
     /// Whether each word is 0, so nobody holds a shard or waits for one.
     fn are_free(self) -> bool;
+
+    /// Whether so many rows are taken, none of which is held. One more is taken then.
+    fn are_taken(self, rows: usize) -> bool;
 }
 
-impl<R> Rows for &Table<'_, R> {
+impl<'t, 'l, R> Rows for &'t Table<'l, R> {
+    type Lock = Row<'t, 'l, R>;
+
     fn are_free(self) -> bool {
         let mut free = true;
         for row in 0..ROWS {
@@ -123,34 +130,40 @@ impl<R> Rows for &Table<'_, R> {
         }
         free
     }
-}
 
-/// Whether so many rows are taken, none of which is held. One more is taken then.
-pub fn are_taken<R>(table: &Table<'_, R>, rows: usize) -> bool {
-    match table.claim() {
-        Ok(row) => table.are_free() && row.number() == rows,
-        Err(_) => false,
+    fn are_taken(self, rows: usize) -> bool {
+        match self.claim() {
+            Ok(row) => self.are_free() && row.number() == rows,
+            Err(_) => false,
+        }
     }
 }
 
-fn ask<R: Wait + Threads + Clock + RandomSource + Sync + Send>(
+/// Makes a call over any table of locks. What owns a map names no lock, since that is ten times as dear to prove.
+fn ask<T: Rows + Drop, R: Threads + Clock + Sync>(
     heap: &Heap,
-    table: &Table<'_, R>,
-    team: &mut Team,
-    call: On,
-) -> Option<Seen> {
+    rt: &R,
+    table: T,
+    team: &mut Team<<T::Lock as RawRwLock>::Party>,
+    call: On<'_>,
+) -> Option<Seen>
+where
+    T::Lock: RawRwLockTimed<Instant = Instant> + MakeLock<T> + Drop + Sync,
+    <T::Lock as RawRwLock>::Runtime: Wait + RandomSource,
+    <T::Lock as RawRwLock>::Party: Send,
+{
     match call {
-        On::Make(call) => make_map(heap, table, call),
-        On::MakeSet(call) => make_set(heap, table, call),
-        On::InsertEntry => insert_entry(heap, table, &mut team.me),
-        On::Collect => collect_all(heap, table, &mut team.me),
-        On::View(call) => with_view(heap, table, &mut team.me, call),
-        On::Set(call) => with_set(heap, table, team, call),
-        On::MakeRecord => make_record(heap, table),
-        On::Gather => gather_twelve(heap, table, &mut team.me),
-        On::Record(call) => with_record(heap, table, &mut team.me, call),
-        On::Map(call) => ask_map(heap, table, &mut team.me, call),
-        On::Owned(call) => ask_owner(heap, table, team, call),
+        On::Make(call) => make_map::<T::Lock, T>(heap, table, call),
+        On::MakeSet(call) => make_set::<T::Lock, T>(heap, table, call),
+        On::InsertEntry => insert_entry::<T::Lock, T>(heap, table, &mut team.me),
+        On::Collect => collect_all::<T::Lock, T, R>(heap, rt, table, &mut team.me),
+        On::View(call) => with_view::<T::Lock, T, R>(heap, rt, table, &mut team.me, call),
+        On::Set(call) => with_set::<T::Lock, T, R>(heap, rt, table, team, call),
+        On::MakeRecord => make_record::<T::Lock, T>(heap, table),
+        On::Gather => gather_twelve::<T::Lock, T>(heap, table, &mut team.me),
+        On::Record(call) => with_record::<T::Lock, T>(heap, table, &mut team.me, call),
+        On::Map(call) => ask_map::<T::Lock, T>(heap, table, &mut team.me, call),
+        On::Owned(call) => ask_owner::<T::Lock, T, R>(heap, rt, table, team, call),
     }
 }
 
@@ -158,7 +171,7 @@ fn ask<R: Wait + Threads + Clock + RandomSource + Sync + Send>(
 fn over<R: Wait + Threads + Clock + RandomSource + Sync + Send>(
     heap: &Heap,
     table: &Table<'_, R>,
-    call: On,
+    call: On<'_>,
 ) -> Option<Seen> {
     let lot = table.lot();
     let me = lot.thread_data().ok()?;
@@ -166,13 +179,13 @@ fn over<R: Wait + Threads + Clock + RandomSource + Sync + Send>(
     let mut team = Team { me, others };
     team.others.push(lot.thread_data().ok()?).ok()?;
     team.others.push(lot.thread_data().ok()?).ok()?;
-    ask(heap, table, &mut team, call)
+    ask(heap, lot.runtime(), table, &mut team, call)
 }
 
 fn run<R: Wait + Threads + Clock + RandomSource + Sync + Send + Copy + Drop>(
     rt: R,
     heap: &Heap,
-    call: On,
+    call: On<'_>,
 ) -> Option<Seen> {
     let lot = ParkingLot::new(rt, *heap.inner(), 3, 7).ok()?;
     let table = LockTable::new(*heap.inner(), &lot, ROWS).ok()?;
@@ -183,7 +196,7 @@ fn run<R: Wait + Threads + Clock + RandomSource + Sync + Send + Copy + Drop>(
 fn run_in_turn<R: Wait + Threads + Clock + RandomSource + Sync + Send + Copy + Drop>(
     rt: R,
     alloc: Global,
-    call: On,
+    call: On<'_>,
 ) -> Result<u64, Wrong> {
     let seen = run(rt, &RefusingHeap::new(alloc, Refusal::Never), call).ok_or(Wrong::Unprepared)?;
     if !seen.stood {
@@ -203,7 +216,7 @@ fn run_in_turn<R: Wait + Threads + Clock + RandomSource + Sync + Send + Copy + D
 
 pub fn print_rows<
     R: AllocGlobal + Print + Wait + Threads + Clock + RandomSource + Copy + Send + Sync + Drop,
->(rt: R, of: &str, lines: &[Line<On>]) -> bool {
+>(rt: R, of: &str, lines: &[Line<On<'_>>]) -> bool {
     let mut all = true;
     for &(call, case, stands) in lines {
         let said = run_in_turn(rt, rt.alloc(), case);

@@ -1,6 +1,6 @@
 //! Sets: their calls, their owner's calls and their parallel forms.
 
-use crate::rows::{FROM, Me, On, Row, Rows, TO, Table, Team, keys};
+use crate::rows::{FROM, On, Rows, TO, Team, keys};
 use dashmap::set::DashSet;
 use dashmap_parallel::ParExtendFault;
 use dashmap_table::{MapFault, NoMemory, SpreadState};
@@ -198,36 +198,19 @@ fn collect_owned<Q: RawRwLock + Drop, R: Threads + Sync>(
     listed(list, 2, NoMemory)
 }
 
-/// A set whose locks are rows of the table.
-fn set_on<'h, 't, 'l, R: Wait>(
-    heap: &'h Heap,
-    table: &'t Table<'l, R>,
-) -> Option<Set<'h, Row<'t, 'l, R>>> {
-    DashSet::with_hasher(heap, SpreadState, 1, table).ok()
-}
-
-/// Collects the keys of a set that goes.
-fn own_set<R: Wait + Threads + Sync + Send>(
-    heap: &Heap,
-    table: &Table<'_, R>,
-    me: &mut Me,
-) -> Option<Seen> {
-    let set = set_on(heap, table)?;
-    let _keys = prepare(&set, me, OnSet::OwnedMapCollect)?;
-    let before = heap.asked();
-    let said = collect_owned(heap, table.lot().runtime(), set);
-    Seen::of(before, heap.asked(), said.may_fit(heap) && table.are_free())
-}
-
 /// Makes a call on a set that is lent.
-fn ask_set<'h, 't, 'l, R: Wait + Threads + Sync + Send>(
+fn ask_set<'h, Q: RawRwLock + MakeLock<T> + Drop + Sync, T: Rows + Drop, R: Threads + Sync>(
     heap: &'h Heap,
-    table: &'t Table<'l, R>,
-    set: &mut Set<'h, Row<'t, 'l, R>>,
-    team: &mut Team,
+    rt: &R,
+    table: T,
+    set: &mut Set<'h, Q>,
+    team: &mut Team<Q::Party>,
     call: OnSet,
-) -> Option<Seen> {
-    let rt = table.lot().runtime();
+) -> Option<Seen>
+where
+    Q::Runtime: Wait,
+    Q::Party: Send,
+{
     let keys = prepare(set, &mut team.me, call)?;
     let before = heap.asked();
     let (before, came) = match call {
@@ -245,18 +228,40 @@ fn ask_set<'h, 't, 'l, R: Wait + Threads + Sync + Send>(
     Seen::of(before, behind, is_right)
 }
 
-/// Makes a call on a set, or collects the keys of one that goes.
-pub fn with_set<R: Wait + Threads + Sync + Send>(
+/// Collects the keys of a set that goes.
+fn own_set<Q: RawRwLock + Drop, T: Rows, R: Threads + Sync>(
     heap: &Heap,
-    table: &Table<'_, R>,
-    team: &mut Team,
+    rt: &R,
+    table: T,
+    set: Set<'_, Q>,
+    me: &mut Q::Party,
+) -> Option<Seen>
+where
+    Q::Runtime: Wait,
+{
+    let _keys = prepare(&set, me, OnSet::OwnedMapCollect)?;
+    let before = heap.asked();
+    let said = collect_owned(heap, rt, set);
+    Seen::of(before, heap.asked(), said.may_fit(heap) && table.are_free())
+}
+
+/// Makes a call on a new set, or collects the keys of one that goes.
+pub fn with_set<Q: RawRwLock + MakeLock<T> + Drop + Sync, T: Rows + Drop, R: Threads + Sync>(
+    heap: &Heap,
+    rt: &R,
+    table: T,
+    team: &mut Team<Q::Party>,
     call: OnSet,
-) -> Option<Seen> {
+) -> Option<Seen>
+where
+    Q::Runtime: Wait,
+    Q::Party: Send,
+{
+    let mut set: Set<'_, Q> = DashSet::with_hasher(heap, SpreadState, 1, table).ok()?;
     if let OnSet::OwnedMapCollect = call {
-        return own_set(heap, table, &mut team.me);
+        return own_set(heap, rt, table, set, &mut team.me);
     }
-    let mut set = set_on(heap, table)?;
-    ask_set(heap, table, &mut set, team, call)
+    ask_set(heap, rt, table, &mut set, team, call)
 }
 
 const KEY: &str = "the key comes back; no key; no hold";
@@ -269,13 +274,13 @@ const PUT: &str = "keys that were put in; no hold";
 
 const ITEMS: &str = "the items before it; the walk is over; no hold";
 
-const SHARED: On = On::Set(OnSet::ParExtendShared);
+const SHARED: On<'static> = On::Set(OnSet::ParExtendShared);
 
-const COLLECT: On = On::Set(OnSet::MapCollect);
+const COLLECT: On<'static> = On::Set(OnSet::MapCollect);
 
-const COLLECT_ALL: On = On::Set(OnSet::OwnedMapCollect);
+const COLLECT_ALL: On<'static> = On::Set(OnSet::OwnedMapCollect);
 
-pub const LINES: &[Line<On>] = &[
+pub const LINES: &[Line<On<'static>>] = &[
     ("insert", On::Set(OnSet::Insert), KEY),
     ("insert_mut", On::Set(OnSet::InsertMut), KEY),
     ("extend, 20 keys", On::Set(OnSet::Extend), MIDDLE),

@@ -207,8 +207,7 @@ module _ (s : State) (t : ℕ) (call : CondvarCall) (listed : Bool) (taken : ℕ
       let known = (knows (n.Forgets notice) here).1 in
       plain (n.Forgets notice) here (now (n.Forgets notice)) (n.Leaves notice) refl (rules.Forget rules.Notifies) refl
       refl (inr refl, sym (waiters s fits) ∙ known.1) refl refl
-      (known.0, known.2) (inside (n.Forgets notice) here) (inr (alone_in s t (sym (inside (n.Forgets notice) here))))
-      (λ x ne. refl)
+      (known.0, known.2) (inside (n.Forgets notice) here) (inr (alone_in s t (sym (inside (n.Forgets notice) here)))) (λ x ne. refl)
 
   goes : (notice : Notice) → Here (n.Leaves notice) → Makes (n.Leaves notice)
   goes notice here = go notice.wakes refl
@@ -221,8 +220,7 @@ module _ (s : State) (t : ℕ) (call : CondvarCall) (listed : Bool) (taken : ℕ
 
       to_phase : (q : NotifyPhase) → next_phase (n.Leaves notice) seen.Made ≡ q → notifies.does q ≡ rules.Idle
           → notify_is_inside q ≡ false
-          → NotifyKnows (is_of_all call) (length s.calls) s.word s.beside (length s.queue) taken q
-          → Makes (n.Leaves notice)
+          → NotifyKnows (is_of_all call) (length s.calls) s.word s.beside (length s.queue) taken q → Makes (n.Leaves notice)
       to_phase q is idle out know = plain (n.Leaves notice) here (now (n.Leaves notice))
           (next_phase (n.Leaves notice) seen.Made) refl rules.Go refl (ap notifies.does is ∙ idle) tt refl refl
           (subst (NotifyKnows (is_of_all call) (length s.calls) s.word s.beside (length s.queue) taken) (sym is) know)

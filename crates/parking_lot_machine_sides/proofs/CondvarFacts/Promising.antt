@@ -119,12 +119,10 @@ notify_ends c threads word beside waiting (n.Ends count) r e is know =
     (notify_replies c c.call count refl is know.0 know.1)
 notify_ends c threads word beside waiting p r e is know = absurd (none-some r e)
 
-ends : (c : OpenCall) (threads word : ℕ) (beside : Option ℕ) (waiting : ℕ) (k : Core) (r : CondvarReply)
-    → reply_by c.call k ≡ Some r
+ends : (c : OpenCall) (threads word : ℕ) (beside : Option ℕ) (waiting : ℕ) (k : Core) (r : CondvarReply) → reply_by c.call k ≡ Some r
     → Knows c.call c.listed threads word beside waiting c.taken k → MayReply c r
 ends c threads word beside waiting (core.Wait k) r e know = wait_ends c c.listed waiting k.phase r e know.0 know.1
-ends c threads word beside waiting (core.Notify k) r e know =
-    notify_ends c threads word beside waiting k.phase r e know.0 know.1
+ends c threads word beside waiting (core.Notify k) r e know = notify_ends c threads word beside waiting k.phase r e know.0 know.1
 
 pub replies_fit : RepliesFit
 replies_fit s u t c r fits here step =

@@ -186,8 +186,7 @@ module _ (s : State) (t : ℕ) (call : CondvarCall) (taken : ℕ) (fits : Fits s
   shows : (k : ℕ) (listed : Bool) → Here listed (w.Shows k) → Makes listed (w.Shows k)
   shows k listed here = plain listed (w.Shows k) here (now listed (w.Shows k)) listed (w.Rests k) refl (rules.Show k)
       refl refl tt (shown_is k (knows listed (w.Shows k) here).1.1) refl
-      (knows listed (w.Shows k) here).1.0 (inside listed (w.Shows k) here)
-      (inr (alone_in s t (sym (inside listed (w.Shows k) here))))
+      (knows listed (w.Shows k) here).1.0 (inside listed (w.Shows k) here) (inr (alone_in s t (sym (inside listed (w.Shows k) here))))
       (λ x ne. refl)
 
   rests : (k : ℕ) → Here true (w.Rests k) → Makes true (w.Rests k)

@@ -368,8 +368,7 @@ module _ (s : Onces) (t : ℕ) (c : OpenCall) (fits : Fits s) (here : call_at s 
   needed : NeedsOf (move (known_of taken c) p given) (λ x. total x (once_at s c.once).roles)
   needed = needs_so (known_of taken c) p given n (list_of s.waiting c.once) (λ x. total x (once_at s c.once).roles) own
       (shows (act_of p) n own)
-      (entry_needs (act_of p) (inside_at s c.once ≡ None) (total Inside (once_at s c.once).roles ≡ 0)
-      (none_inside s c.once fits)
+      (entry_needs (act_of p) (inside_at s c.once ≡ None) (total Inside (once_at s c.once).roles ≡ 0) (none_inside s c.once fits)
       free)
       sits.knows
       (λ e. sym (fits.sound c.once).listed.count ∙ ap (λ (q : List ℕ). length q) e)

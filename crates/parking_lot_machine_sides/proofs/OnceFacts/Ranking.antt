@@ -299,8 +299,7 @@ module _ (s : Onces) (fits : Fits s) where
   shut_so t (Some u) e f = ap not e
 
   stuck_so : (t : ℕ) (c : OpenCall) (p : OncePhase) → is_in_section p ≡ is_the (inside_at s c.once) t
-      → is_possible (is_none (inside_at s c.once)) (act_of p) ≡ false
-      → IsStuck (act_of p) (is_shut_to t (inside_at s c.once))
+      → is_possible (is_none (inside_at s c.once)) (act_of p) ≡ false → IsStuck (act_of p) (is_shut_to t (inside_at s c.once))
   stuck_so t c (Enters wish) out e = shut_so t (inside_at s c.once) (sym out) e
   stuck_so t c (Looks well) out e = shut_so t (inside_at s c.once) (sym out) e
   stuck_so t c (Sleeps wish) out e = tt

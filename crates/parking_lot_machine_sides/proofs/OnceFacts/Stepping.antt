@@ -144,8 +144,7 @@ section_entry a next X e = subst (λ b. IsEntry b X) (sym e) tt
 pub possible : (s : Onces) (t : ℕ) (c : OpenCall) → call_at s t ≡ Some c → can_move s t ≡ true
     → is_possible (is_none (inside_at s c.once)) (act_of c.core.phase) ≡ true
 possible s t c here can =
-    sym (ap (λ o. option_map_or (λ (x : OpenCall). is_possible (is_none (inside_at s x.once)) (act_of x.core.phase)) o false)
-    here)
+    sym (ap (λ o. option_map_or (λ (x : OpenCall). is_possible (is_none (inside_at s x.once)) (act_of x.core.phase)) o false) here)
     ∙ can
 
 module _ (s : Onces) (t : ℕ) (c : OpenCall) (fits : Fits s) (here : call_at s t ≡ Some c) where
