@@ -1,7 +1,8 @@
-//! All schedules of threads at two mutexes that they lock in turn. The lists of the two are in different buckets: a
-//! section of the one may be open while one of the other is, and in each of these searches there are such states.
+//! All schedules of threads at two mutexes that they lock in turn, and of a wait beside a mutex. Their lists are in
+//! different buckets: a section of the one may be open while one of the other is, and in each of these searches there
+//! are such states.
 
-use super::{LOCK, LOCK_OTHER, NONE, UNLOCK, UNLOCK_OTHER, explore};
+use super::{LOCK, LOCK_OTHER, NONE, UNLOCK, UNLOCK_OTHER, WAIT, WAIT_UNTIL, explore};
 use parking_lot_explorer::{Calls, Pairs, Three, pairs_of};
 use std::process::Abort;
 use std::test::Fail;
@@ -66,4 +67,19 @@ fn of_two_in_opposite_orders_and_a_third(rt: HostRuntime) -> Result<(), Fail> {
         Three(forwards, backwards, [LOCK, UNLOCK, None]),
         284_000,
     )
+}
+
+/// One owns the other mutex and waits with the first, and another asks for the other: its section is open while the
+/// variable's is.
+#[test]
+fn of_a_wait_and_one_that_asks_for_the_other(rt: HostRuntime) -> Result<(), Fail> {
+    for wait in [WAIT, WAIT_UNTIL] {
+        let found = explore(
+            &rt,
+            Three([LOCK_OTHER, LOCK, wait], [LOCK_OTHER, None, None], NONE),
+            2,
+        )?;
+        assert!(rt; found.beside, "both are open at once: {wait:?}");
+    }
+    Ok(())
 }
