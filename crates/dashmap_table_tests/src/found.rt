@@ -2,6 +2,7 @@
 
 use crate::views::{Fold, View, empty_shards, put, shard_of, view_if_routed, view_of};
 use dashmap_view::Displaced;
+use std::alloc::Global;
 use std::hash::BuildHasher;
 use std::test::Fail;
 
@@ -60,21 +61,31 @@ fn a_view_of_no_pair_is_empty(rt: HostRuntime) -> Result<(), Fail> {
     Ok(())
 }
 
+/// Whether four shards make a view, one of which has key 7 under a hash.
+fn makes_view(alloc: Global, shard: usize, hash: u64) -> Result<bool, Fail> {
+    let mut shards = empty_shards(alloc, 4)?;
+    if !put(&mut shards, shard, hash, 7) {
+        return Err("key 7 isn't put in".into());
+    }
+    Ok(view_if_routed(shards).is_some())
+}
+
 #[test]
 fn a_pair_under_another_hash_or_in_another_shard_makes_no_view(
     rt: HostRuntime,
 ) -> Result<(), Fail> {
     let hash = Fold::new().hash_one(&7u64);
     let shard = shard_of(hash, 4);
-    let mut home = empty_shards(rt.alloc(), 4)?;
-    let mut right = put(&mut home, shard, hash, 7);
-    right &= view_if_routed(home).is_some();
-    let mut away = empty_shards(rt.alloc(), 4)?;
-    right &= put(&mut away, shard ^ 1, hash, 7);
-    right &= view_if_routed(away).is_none();
-    let mut misnamed = empty_shards(rt.alloc(), 4)?;
-    right &= put(&mut misnamed, shard, hash ^ 1, 7);
-    assert!(rt; right && view_if_routed(misnamed).is_none());
+    for (shard, hash, is_made) in [
+        (shard, hash, true),
+        (shard ^ 1, hash, false),
+        (shard, hash ^ 1, false),
+    ] {
+        assert!(rt;
+            makes_view(rt.alloc(), shard, hash)? == is_made,
+            "{shard} {hash}"
+        );
+    }
     Ok(())
 }
 

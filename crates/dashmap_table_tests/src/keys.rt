@@ -56,24 +56,32 @@ fn there_is_one_unit(rt: HostRuntime) -> Result<(), Fail> {
     Ok(())
 }
 
+/// Numbers with labels, and a number for each.
+type Labels = Shards<Labelled, u64, Fold>;
+
+/// Puts a labelled number in. Whether it was answered so.
+fn puts(map: &mut Labels, number: u64, label: u8, value: u64, old: Option<u64>) -> bool {
+    map.insert(Labelled { number, label }, value) == Ok(old)
+}
+
+/// The number, the label and the value of the pair that is found under another label and taken out.
+fn taken(map: &mut Labels, number: u64, label: u8) -> Option<(u64, u8, u64)> {
+    let (stored, value) = map.remove(&Labelled { number, label })?;
+    Some((stored.number, stored.label, value))
+}
+
 #[test]
 fn keys_are_compared_by_one_field(rt: HostRuntime) -> Result<(), Fail> {
-    let mut map: Shards<Labelled, u64, Fold> = Shards::new(rt.alloc(), 8, Fold::new())?;
+    let mut map: Labels = Shards::new(rt.alloc(), 8, Fold::new())?;
     let mut right = true;
     for number in 0..20 {
-        right &= map.insert(Labelled { number, label: 1 }, number) == Ok(None);
+        right &= puts(&mut map, number, 1, number, None);
     }
     for number in 0..20 {
-        let old = map.insert(Labelled { number, label: 2 }, 50);
-        right &= old == Ok(Some(number));
+        right &= puts(&mut map, number, 2, 50, Some(number));
     }
-    let sought = Labelled {
-        number: 7,
-        label: 3,
-    };
-    let (stored, value) = map.remove(&sought).ok_or("not found")?;
-    right &= (stored.number == 7) & (stored.label == 1) & (value == 50);
-    assert!(rt; right && map.find(&sought).is_none());
+    right &= taken(&mut map, 7, 3) == Some((7, 1, 50));
+    assert!(rt; right && taken(&mut map, 7, 3) == None);
     Ok(())
 }
 

@@ -41,15 +41,21 @@ fn the_most_shards_are_told_apart_by_sixteen_bits(rt: HostRuntime) {
 
 #[test]
 fn shares_are_rounded_up(rt: HostRuntime) {
-    assert!(rt; is_shard_amount(4) && is_shard_amount(32));
-    assert!(rt; capacity_share(0, 4) == Some(0));
-    assert!(rt; capacity_share(1, 4) == Some(1));
-    assert!(rt; capacity_share(5, 4) == Some(2));
-    assert!(rt; capacity_share(32, 32) == Some(1));
-    assert!(rt; capacity_share(1 << 50, 4) == Some(1 << 48));
-    assert!(rt; capacity_share((1 << 50) + 1, 4) == None);
-    assert!(rt; capacity_share(usize::MAX - 3, 4) == None);
-    assert!(rt; capacity_share(usize::MAX, 4) == None);
+    for (capacity, shards, want) in [
+        (0, 4, Some(0)),
+        (1, 4, Some(1)),
+        (5, 4, Some(2)),
+        (32, 32, Some(1)),
+        (1 << 50, 4, Some(1 << 48)),
+        ((1 << 50) + 1, 4, None),
+        (usize::MAX - 3, 4, None),
+        (usize::MAX, 4, None),
+    ] {
+        assert!(rt;
+            is_shard_amount(shards) && capacity_share(capacity, shards) == want,
+            "{capacity} on {shards}"
+        );
+    }
 }
 
 #[test]

@@ -148,40 +148,71 @@ fn replacing_gives_the_old_pair(rt: HostRuntime) -> Result<(), Fail> {
     Ok(())
 }
 
+/// Takes out the first pair from a slot on, and answers its key and the slot behind it.
+fn taken_from(shard: &mut Shard<u64, u64>, from: usize) -> Option<(u64, usize)> {
+    let slot = shard.next_from(from)?;
+    let (key, _) = shard.remove(slot)?;
+    Some((key, slot.wrapping_add(1)))
+}
+
+/// Takes out as many pairs in a walk, and answers which of the keys below eight were there, as the bits of a number.
+fn taken_in_a_walk(shard: &mut Shard<u64, u64>, pairs: u64) -> Option<u64> {
+    let (mut seen, mut from) = (0u64, 0);
+    for _ in 0..pairs {
+        let (key, next) = taken_from(shard, from)?;
+        seen |= 1 << (key % 8);
+        from = next;
+    }
+    Some(seen)
+}
+
+const EIGHT: &[Row] = &[(Call::InsertEach(Hashes::Own, 0, 8), Answer::Number(8))];
+
 #[test]
 fn a_walk_may_remove_as_it_goes(rt: HostRuntime) -> Result<(), Fail> {
     let mut shard = Shard::new(rt.alloc());
-    let mut right = true;
-    for key in 0u64..8 {
-        right &= shard.insert(key, key, ()).is_ok();
-    }
-    let mut seen = 0;
-    let mut from = 0;
-    for _ in 0..8 {
-        let slot = shard.next_from(from).ok_or("a pair is left out")?;
-        let (key, ()) = shard.remove(slot).ok_or("a free slot")?;
-        seen |= 1u64 << (key % 8);
-        from = slot + 1;
-    }
-    assert!(rt; right && seen == 255 && shard.next_from(0).is_none() && shard.is_empty());
+    run(&mut shard, EIGHT)?;
+    let seen = taken_in_a_walk(&mut shard, 8);
+    assert!(rt; seen == Some(255) && shard.next_from(0).is_none() && shard.is_empty());
     Ok(())
+}
+
+/// The pair of a slot, whose value is replaced.
+fn exchanged_pair(shard: &mut Shard<u64, u64>, slot: usize, by: u64) -> Option<(u64, u64)> {
+    let (key, value) = shard.pair_mut(slot)?;
+    let pair = (*key, *value);
+    *value = by;
+    Some(pair)
+}
+
+/// The value of a slot, which is replaced.
+fn exchanged_value(shard: &mut Shard<u64, u64>, slot: usize, by: u64) -> Option<u64> {
+    let value = shard.value_mut(slot)?;
+    let old = *value;
+    *value = by;
+    Some(old)
+}
+
+/// The same of the slot that an insertion at hash 9 gave.
+fn exchanged_after_insertion(shard: &mut Shard<u64, u64>, by: u64) -> Option<(usize, u64)> {
+    let slot = match shard.insert(9, 1, 2) {
+        Ok((slot, _)) => slot,
+        Err(_) => return None,
+    };
+    let (_, value) = shard.lend(slot);
+    let old = *value;
+    *value = by;
+    Some((slot, old))
 }
 
 #[test]
 fn slots_lend_their_pairs(rt: HostRuntime) -> Result<(), Fail> {
     let mut shard = Shard::new(rt.alloc());
-    let (slot, _) = shard.insert(9, 1u64, 2u64)?;
-    let mut right = shard.hash_of(slot) == Some(9);
+    let (slot, inserted) = exchanged_after_insertion(&mut shard, 3).ok_or("no memory")?;
+    let mut right = inserted == 2 && shard.hash_of(slot) == Some(9);
     right &= shard.hash_of(slot + 1).is_none() & shard.pair_mut(slot + 1).is_none();
-    let (key, value) = shard.pair_mut(slot).ok_or("no pair")?;
-    right &= (*key == 1) & (*value == 2);
-    *value = 3;
-    let value = shard.value_mut(slot).ok_or("no value")?;
-    right &= *value == 3;
-    *value = 4;
-    let (_, value) = shard.lend(slot);
-    right &= *value == 4;
-    *value = 5;
+    right &= exchanged_pair(&mut shard, slot, 4) == Some((1, 3));
+    right &= exchanged_value(&mut shard, slot, 5) == Some(4);
     assert!(rt; right && shard.remove(slot) == Some((1, 5)));
     Ok(())
 }
@@ -203,21 +234,34 @@ fn a_shard_that_shrinks_keeps_its_pairs(rt: HostRuntime) -> Result<(), Fail> {
     run(&mut Shard::new(rt.alloc()), SHRUNK)
 }
 
+/// The hash of the first pair.
+fn first_hash(shard: &Shard<u64, u64>) -> Option<u64> {
+    shard.hash_of(shard.next_from(0)?)
+}
+
+/// How many pairs a shard says that it gives up and gives up, and the first of them.
+fn given_up(shard: Shard<u64, u64>) -> ((usize, Option<usize>), Option<(u64, u64)>, usize) {
+    let mut pairs = shard.into_pairs();
+    let hint = pairs.size_hint();
+    let first = pairs.next();
+    (hint, first, pairs.count())
+}
+
+const THREE_OF_FOUR: &[Row] = &[
+    (Call::Insert(0, 0, 10), Answer::Absent),
+    (Call::Insert(1, 1, 11), Answer::Absent),
+    (Call::Insert(2, 2, 12), Answer::Absent),
+    (Call::Insert(3, 3, 13), Answer::Absent),
+    (Call::Remove(1, 1), Answer::Pair(1, 11)),
+];
+
 #[test]
 fn pairs_are_given_up_in_order(rt: HostRuntime) -> Result<(), Fail> {
     let mut shard = Shard::new(rt.alloc());
-    let mut right = true;
-    for key in 0u64..4 {
-        right &= shard.insert(key, key, 10 + key).is_ok();
-    }
-    let slot = shard.find(1, &1).ok_or("no pair")?;
-    right &= shard.remove(slot).is_some();
-    let first = shard.next_from(0).ok_or("no pair")?;
-    let hash = shard.hash_of(first).ok_or("a free slot")?;
-    let mut pairs = shard.into_pairs();
-    right &= pairs.size_hint() == (3, Some(3));
-    let (key, value) = pairs.next().ok_or("no first pair")?;
-    right &= (key == hash) & (value == 10 + hash % 4);
-    assert!(rt; right && pairs.count() == 2);
+    run(&mut shard, THREE_OF_FOUR)?;
+    let hash = first_hash(&shard).ok_or("no pair")?;
+    let (hint, first, others) = given_up(shard);
+    let is_first = first == Some((hash, hash.wrapping_add(10)));
+    assert!(rt; is_first && hint == (3, Some(3)) && others == 2);
     Ok(())
 }

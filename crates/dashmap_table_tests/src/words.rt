@@ -10,11 +10,12 @@ pub struct Word {
 }
 
 pub fn spelled(shown: &[u8; 3]) -> Word {
+    let [first, second, third] = *shown;
     Word {
         folded: [
-            shown[0].to_ascii_lowercase(),
-            shown[1].to_ascii_lowercase(),
-            shown[2].to_ascii_lowercase(),
+            first.to_ascii_lowercase(),
+            second.to_ascii_lowercase(),
+            third.to_ascii_lowercase(),
         ],
         shown: *shown,
     }
