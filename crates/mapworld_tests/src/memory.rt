@@ -54,15 +54,18 @@ fn count_of(world: &World) -> usize {
     count
 }
 
-#[test]
-fn a_shard_grows_to_thousands_of_pairs(rt: HostRuntime) -> Result<(), Fail> {
-    let mut program: Vec<Asked> = Vec::new(rt.alloc());
-    for number in 0..3000_u64 {
-        // Even keys are all on one shard.
+/// A program that puts in so many keys, which are even and so all on one shard.
+fn insertions(alloc: Global, keys: u64) -> Result<Vec<Vec<Asked>>, Fail> {
+    let mut program: Vec<Asked> = Vec::new(alloc);
+    for number in 0..keys {
         program.push(Ask::Keyed(Keyed::Insert(number << 1, number)))?;
     }
-    let mut programs = Vec::new(rt.alloc());
-    programs.push(program)?;
+    Ok(vec![in alloc; program]?)
+}
+
+#[test]
+fn a_shard_grows_to_thousands_of_pairs(rt: HostRuntime) -> Result<(), Fail> {
+    let programs = insertions(rt.alloc(), 3000)?;
     let made = world_of(rt.alloc(), 2, SpreadState, &[], &programs);
     let mut world: World = made.ok_or("no world")?;
     assert!(rt; step_through(&mut world, 0) && are_finished(&world));
@@ -71,19 +74,32 @@ fn a_shard_grows_to_thousands_of_pairs(rt: HostRuntime) -> Result<(), Fail> {
     Ok(())
 }
 
-#[test]
-fn walks_with_the_stop_0_take_no_room_for_visits(rt: HostRuntime) -> Result<(), Fail> {
-    let mut program: Vec<Asked> = Vec::new(rt.alloc());
-    for _ in 0..1000 {
+/// A program of so many walks that stop at once.
+fn stopped_walks(alloc: Global, walks: u64) -> Result<Vec<Vec<Asked>>, Fail> {
+    let mut program: Vec<Asked> = Vec::new(alloc);
+    for _ in 0..walks {
         program.push(Ask::Walk(Walk::Iter(Change::NONE, Some(0))))?;
     }
-    let mut programs = Vec::new(rt.alloc());
-    programs.push(program)?;
+    Ok(vec![in alloc; program]?)
+}
+
+/// Whether a world in that heap makes all walks, and shows no visit.
+fn walks_without_visits(heap: &LocalHeap, programs: &[Vec<Asked>]) -> bool {
+    match world_of(heap, 64, SpreadState, &[], programs) {
+        Some(mut world) => {
+            let is_done = step_through(&mut world, 0);
+            is_done && are_finished(&world) && world.blocks().is_empty()
+        }
+        None => false,
+    }
+}
+
+#[test]
+fn walks_with_the_stop_0_take_no_room_for_visits(rt: HostRuntime) -> Result<(), Fail> {
+    let programs = stopped_walks(rt.alloc(), 1000)?;
     // A block for each visit of 64 shards would take seven times as much.
     let heap = LocalHeap::new(rt.alloc(), 500_000)?;
-    let mut world = world_of(&heap, 64, SpreadState, &[], &programs).ok_or("no world")?;
-    let is_done = step_through(&mut world, 0);
-    assert!(rt; is_done && are_finished(&world) && world.blocks().is_empty());
+    assert!(rt; walks_without_visits(&heap, &programs));
     Ok(())
 }
 
