@@ -103,30 +103,63 @@ where
     (before, guard.0)
 }
 
+/// Whether a guard that was handed on writes from its entry, with the lock held meanwhile.
+fn keeps_a_writer<R: RawRwLock>(lock: &RwLock<R, u64>, me: &mut R::Party) -> bool
+where
+    R::Runtime: Wait,
+{
+    let mut writer = writer_of(lock, me, 3);
+    add(&mut writer, 1);
+    let mut entry = Entry::new(writer);
+    let is_set = (entry.set(5) == 5) & lock.is_locked_exclusive();
+    is_set & entry.close() & !lock.is_locked()
+}
+
+/// Whether a guard of a mutex writes from its entry, with the mutex held meanwhile.
+fn keeps_a_guard<R: RawMutex>(mutex: &Mutex<R, u64>, me: &mut R::Party) -> bool
+where
+    R::Runtime: Wait,
+{
+    let mut tally = Entry::new(mutex.lock(me));
+    let is_set = (tally.set(6) == 6) & mutex.is_locked();
+    is_set & tally.close() & !mutex.is_locked()
+}
+
 #[test]
-fn guards_are_kept_and_handed_on(rt: HostRuntime) -> Result<(), Fail> {
+fn guards_of_a_lock_are_kept_and_handed_on(rt: HostRuntime) -> Result<(), Fail> {
     let lot = ParkingLot::new(rt, rt.alloc(), 1, 7)?;
     let mut me = lot.thread_data()?;
-    let table = LockTable::new(rt.alloc(), &lot, 3)?;
+    let table = LockTable::new(rt.alloc(), &lot, 1)?;
     let lock: RwLock<parking_lot_rwlock::RawRwLock<HostRuntime, 0>, u64> = RwLock::new(
         &table, 5, 0,
     )?;
-    assert!(rt; overwrites(&lock, &mut me, 1) & overwrites(&lock, &mut me, 2));
-    let mut writer = writer_of(&lock, &mut me, 3);
-    add(&mut writer, 1);
-    let mut entry = Entry::new(writer);
-    assert!(rt; (entry.set(5) == 5) & lock.is_locked_exclusive());
-    assert!(rt; entry.close() & !lock.is_locked() & (lock.into_inner() == 5));
+    let mut right = overwrites(&lock, &mut me, 1) & overwrites(&lock, &mut me, 2);
+    right &= keeps_a_writer(&lock, &mut me);
+    assert!(rt; right & (lock.into_inner() == 5));
+    Ok(())
+}
+
+#[test]
+fn guards_of_a_mutex_are_kept(rt: HostRuntime) -> Result<(), Fail> {
+    let lot = ParkingLot::new(rt, rt.alloc(), 1, 7)?;
+    let mut me = lot.thread_data()?;
+    let table = LockTable::new(rt.alloc(), &lot, 1)?;
     let counter: Mutex<parking_lot_mutex::RawMutex<HostRuntime>, u64> = Mutex::new(&table, 1)?;
-    let mut tally = Entry::new(counter.lock(&mut me));
-    assert!(rt; (tally.set(6) == 6) & counter.is_locked());
-    assert!(rt; tally.close() & !counter.is_locked() & (counter.into_inner() == 6));
+    assert!(rt; keeps_a_guard(&counter, &mut me) & (counter.into_inner() == 6));
+    Ok(())
+}
+
+#[test]
+fn a_guard_lives_for_one_statement(rt: HostRuntime) -> Result<(), Fail> {
+    let lot = ParkingLot::new(rt, rt.alloc(), 1, 7)?;
+    let mut me = lot.thread_data()?;
+    let table = LockTable::new(rt.alloc(), &lot, 1)?;
     let ticker: Mutex<parking_lot_mutex::RawMutex<HostRuntime>, Ticks> = Mutex::new(
         &table,
         Ticks(0),
     )?;
-    assert!(rt; tick_and_look(&ticker, &mut me) == (1, 2));
-    assert!(rt; tick_and_look(&ticker, &mut me) == (3, 4));
+    let first = tick_and_look(&ticker, &mut me);
+    assert!(rt; (first == (1, 2)) & (tick_and_look(&ticker, &mut me) == (3, 4)));
     Ok(())
 }
 
@@ -163,25 +196,61 @@ where
     ]
 }
 
+/// Whether calls of a second party give up while the first one has the mutex, and leave its word in row 0 as it is.
+fn gives_up<R, C: Clock>(
+    clock: &C,
+    table: &LockTable<'_, C>,
+    mutex: &Arc<Mutex<R, u64>, Global>,
+    past: Instant,
+    one: &mut R::Party,
+    other: &mut R::Party,
+) -> bool
+where
+    R: RawMutexTimed<Duration = Duration, Instant = Instant> + Drop,
+    R::Runtime: Wait,
+{
+    let _guard = mutex.lock(one);
+    let beside = have_it(clock, mutex, past, other, Duration::from_millis(1));
+    (beside == [false; 2]) & (table.word(0) == Some(1))
+}
+
+/// Whether they have it once nobody has it, within a millisecond and in any time.
+fn has_it<R, C: Clock>(
+    clock: &C,
+    mutex: &Arc<Mutex<R, u64>, Global>,
+    past: Instant,
+    other: &mut R::Party,
+) -> bool
+where
+    R: RawMutexTimed<Duration = Duration, Instant = Instant> + Drop,
+    R::Runtime: Wait,
+{
+    let soon = have_it(clock, mutex, past, other, Duration::from_millis(1));
+    (soon == [true; 2]) & (have_it(clock, mutex, past, other, Duration::MAX) == [true; 2])
+}
+
+/// The number behind a mutex, which is written anew by a guard that is kept.
+fn rewritten<R: RawMutex>(mutex: &Mutex<R, u64>, me: &mut R::Party) -> Option<u64>
+where
+    R::Runtime: Wait,
+{
+    let mut tally = Entry::new(mutex.lock(me));
+    let sum = *tally.guard;
+    let is_set = tally.set(1) == 1;
+    (is_set & tally.close()).then_some(sum)
+}
+
 #[test]
 fn a_mutex_in_an_arc_is_had_in_time_or_given_up(rt: HostRuntime) -> Result<(), Fail> {
+    let past = Instant::now(&rt)?;
     let lot = ParkingLot::new(rt, rt.alloc(), 2, 7)?;
-    let mut one = lot.thread_data()?;
-    let mut other = lot.thread_data()?;
+    let (mut one, mut other) = (lot.thread_data()?, lot.thread_data()?);
     let table = LockTable::new(rt.alloc(), &lot, 1)?;
     let mutex: Mutex<parking_lot_mutex::RawMutex<HostRuntime>, u64> = Mutex::new(&table, 5)?;
     let mutex = Arc::new(rt.alloc(), mutex)?;
-    let past = Instant::now(&rt)?;
-    let short = Duration::from_millis(1);
-    let guard = mutex.lock(&mut one);
-    let beside = have_it(&rt, &mutex, past, &mut other, short);
-    let is_left = table.word(0) == Some(1);
-    drop(guard);
-    assert!(rt; (beside == [false; 2]) & is_left);
-    assert!(rt; have_it(&rt, &mutex, past, &mut other, short) == [true; 2]);
-    assert!(rt; have_it(&rt, &mutex, past, &mut other, Duration::MAX) == [true; 2]);
-    let mut tally = Entry::new(mutex.lock(&mut one));
-    let sum = *tally.guard;
-    assert!(rt; (sum == 9) & (tally.set(1) == 1) & tally.close() & (table.word(0) == Some(0)));
+    let mut right = gives_up(&rt, &table, &mutex, past, &mut one, &mut other);
+    right &= has_it(&rt, &mutex, past, &mut other);
+    right &= rewritten(&mutex, &mut one) == Some(9);
+    assert!(rt; right & (table.word(0) == Some(0)));
     Ok(())
 }

@@ -70,13 +70,17 @@ fn keys_spread(rt: HostRuntime) {
 
 #[test]
 fn calls_are_shown(rt: HostRuntime) -> Result<(), Fail> {
-    let alloc = rt.alloc();
-    let shown = format!(in alloc;
+    let shown = format!(in rt.alloc();
         "{INSERT:?} {REMOVE:?} {GET:?} {GET_MUT:?} {READ:?} {WRITE:?} {DROP:?}"
     )?;
     let want =
         "Keyed(Insert(2, 3)) Keyed(Remove(1)) Begin(Get(1)) Begin(GetMut(1)) Held(Read(0)) Held(Write(0)) Held(Drop)";
     assert!(rt; shown.as_str() == want);
+    Ok(())
+}
+
+#[test]
+fn a_reply_is_shown(rt: HostRuntime) -> Result<(), Fail> {
     let reply: Reply<u64, u64, u8, Global> = Reply {
         thread: 0,
         call: 1,
@@ -84,7 +88,7 @@ fn calls_are_shown(rt: HostRuntime) -> Result<(), Fail> {
         end: 4,
         answer: Answer::Pair(1, 3),
     };
-    let shown = format!(in alloc; "{reply:?}")?;
+    let shown = format!(in rt.alloc(); "{reply:?}")?;
     let want = "Reply { thread: 0, call: 1, start: 2, end: 4, answer: Pair(1, 3) }";
     assert!(rt; shown.as_str() == want);
     Ok(())

@@ -190,36 +190,51 @@ fn is_recursive_read_and_written<R: Wait>(
     changed & are_read & !lock.is_locked() & (lock.into_inner() == (5, 2))
 }
 
+/// Whether the first two words of a table are 0.
+fn are_free<R>(table: &LockTable<'_, R>) -> bool {
+    (table.word(0) == Some(0)) & (table.word(1) == Some(0))
+}
+
 #[test]
-fn locks_are_taken_and_given_back(rt: HostRuntime) -> Result<(), Fail> {
+fn mutexes_are_taken_and_given_back(rt: HostRuntime) -> Result<(), Fail> {
     let lot = ParkingLot::new(rt, rt.alloc(), 1, 7)?;
     let mut me = lot.thread_data()?;
-    let table = LockTable::new(rt.alloc(), &lot, 5)?;
-    let rows = &table;
-    assert!(rt;
-        is_mutex_taken(Mutex::new(rows, (1, 2))?, &mut me),
-        "the mutex"
-    );
-    assert!(rt;
-        is_fair_mutex_taken(FairMutex::new(rows, (1, 2))?, &mut me),
-        "the fair mutex"
-    );
-    let lock = RwLock::new(rows, 4, (1, 2))?;
-    assert!(rt; is_read_and_written(lock, rows, 2, &mut me), "the lock");
-    let lock = RecursiveRwLock::new(rows, 4, (1, 2))?;
-    assert!(rt;
-        is_recursive_read_and_written(lock, rows, 3, &mut me),
-        "the recursive lock"
-    );
-    let nested = ReentrantMutex::new(rows, 2, (1, 2))?;
-    assert!(rt; is_taken_twice(&nested, &mut me), "the reentrant mutex");
-    assert!(rt;
-        nested.into_inner() == (1, 2),
-        "the reentrant mutex in the end"
-    );
-    for row in 0..5 {
-        assert!(rt; table.word(row) == Some(0), "row {row}");
-    }
+    let table = LockTable::new(rt.alloc(), &lot, 2)?;
+    let plain = is_mutex_taken(Mutex::new(&table, (1, 2))?, &mut me);
+    let fair = is_fair_mutex_taken(FairMutex::new(&table, (1, 2))?, &mut me);
+    assert!(rt; plain, "the mutex");
+    assert!(rt; fair & are_free(&table), "the fair mutex");
+    Ok(())
+}
+
+#[test]
+fn a_lock_is_taken_and_given_back(rt: HostRuntime) -> Result<(), Fail> {
+    let lot = ParkingLot::new(rt, rt.alloc(), 1, 7)?;
+    let mut me = lot.thread_data()?;
+    let table = LockTable::new(rt.alloc(), &lot, 2)?;
+    let lock = RwLock::new(&table, 4, (1, 2))?;
+    assert!(rt; is_read_and_written(lock, &table, 0, &mut me) & are_free(&table));
+    Ok(())
+}
+
+#[test]
+fn a_recursive_lock_is_taken_and_given_back(rt: HostRuntime) -> Result<(), Fail> {
+    let lot = ParkingLot::new(rt, rt.alloc(), 1, 7)?;
+    let mut me = lot.thread_data()?;
+    let table = LockTable::new(rt.alloc(), &lot, 2)?;
+    let lock = RecursiveRwLock::new(&table, 4, (1, 2))?;
+    assert!(rt; is_recursive_read_and_written(lock, &table, 0, &mut me) & are_free(&table));
+    Ok(())
+}
+
+#[test]
+fn a_reentrant_mutex_is_taken_and_given_back(rt: HostRuntime) -> Result<(), Fail> {
+    let lot = ParkingLot::new(rt, rt.alloc(), 1, 7)?;
+    let mut me = lot.thread_data()?;
+    let table = LockTable::new(rt.alloc(), &lot, 2)?;
+    let nested = ReentrantMutex::new(&table, 2, (1, 2))?;
+    let right = is_taken_twice(&nested, &mut me) & (nested.into_inner() == (1, 2));
+    assert!(rt; right & are_free(&table));
     Ok(())
 }
 
@@ -271,33 +286,64 @@ fn fails<R: Wait>(
 }
 
 #[test]
-fn raw_locks_are_taken_and_what_stands_beside_them(rt: HostRuntime) -> Result<(), Fail> {
+fn raw_mutexes_are_taken(rt: HostRuntime) -> Result<(), Fail> {
     let lot = ParkingLot::new(rt, rt.alloc(), 1, 7)?;
     let mut me = lot.thread_data()?;
-    let table = LockTable::new(rt.alloc(), &lot, 7)?;
-    let rows = &table;
+    let table = LockTable::new(rt.alloc(), &lot, 2)?;
+    let plain: RawMutex<HostRuntime> = RawMutex::new(&table, 1)?;
+    let fair: RawFairMutex<HostRuntime> = RawFairMutex::new(&table, 1)?;
+    assert!(rt; is_taken(&plain, &mut me) & is_taken(&fair, &mut me));
     let ids: RawThreadId = RawThreadId::new();
     assert!(rt; ids.nonzero_thread_id(&me).get() == 1);
-    let plain: RawMutex<HostRuntime> = RawMutex::new(rows, 1)?;
-    let fair: RawFairMutex<HostRuntime> = RawFairMutex::new(rows, 1)?;
-    assert!(rt; is_taken(&plain, &mut me) & is_taken(&fair, &mut me));
-    let lock: RawRwLock<HostRuntime, 0> = RawRwLock::new(rows, 1)?;
-    let recursive: RawRwLockRecursive<HostRuntime> = RawRwLockRecursive::new(rows, 1)?;
+    Ok(())
+}
+
+#[test]
+fn raw_locks_are_taken(rt: HostRuntime) -> Result<(), Fail> {
+    let lot = ParkingLot::new(rt, rt.alloc(), 1, 7)?;
+    let mut me = lot.thread_data()?;
+    let table = LockTable::new(rt.alloc(), &lot, 2)?;
+    let lock: RawRwLock<HostRuntime, 0> = RawRwLock::new(&table, 1)?;
+    let recursive: RawRwLockRecursive<HostRuntime> = RawRwLockRecursive::new(&table, 1)?;
     assert!(rt; is_taken_by_each(&lock, &mut me) & is_taken_by_each(&recursive, &mut me));
-    let condvar: Condvar<HostRuntime> = Condvar::new(rows)?;
-    let mutex: Mutex<u64, HostRuntime> = Mutex::new(rows, 0)?;
-    let ran_out = match waits(&rt, &condvar, &mutex, &mut me) {
+    Ok(())
+}
+
+/// Whether a wait has run out.
+fn has_run_out(waited: Option<WaitTimeoutResult>) -> bool {
+    match waited {
         Some(result) => result.timed_out(),
         None => false,
-    };
+    }
+}
+
+#[test]
+fn a_condition_variable_waits(rt: HostRuntime) -> Result<(), Fail> {
+    let lot = ParkingLot::new(rt, rt.alloc(), 1, 7)?;
+    let mut me = lot.thread_data()?;
+    let table = LockTable::new(rt.alloc(), &lot, 2)?;
+    let condvar: Condvar<HostRuntime> = Condvar::new(&table)?;
+    let mutex: Mutex<u64, HostRuntime> = Mutex::new(&table, 0)?;
+    let ran_out = has_run_out(waits(&rt, &condvar, &mutex, &mut me));
     assert!(rt; ran_out & !condvar.notify_one() & !mutex.is_locked());
-    let once: Once<HostRuntime> = Once::new(rows)?;
-    let (ended, waited) = fails(&once, &mut me);
+    Ok(())
+}
+
+/// Whether a once fails, is poisoned then, and is run by a forced call.
+fn fails_and_is_run<R: Wait>(once: &Once<'_, '_, R>, me: &mut ThreadData) -> bool {
+    let (ended, waited) = fails(once, me);
     let has_failed = matches!(ended, Err(OnceFault::Failed(5))) & (waited == Err(Poisoned));
     let is_poisoned = once.state() == OnceState::Poisoned;
-    let is_run = once
-        .call_once_force(&mut me, |_before| Ok::<(), u8>(()))
-        .is_ok();
-    assert!(rt; has_failed & is_poisoned & is_run & (once.state() == OnceState::Done));
+    let is_run = once.call_once_force(me, |_before| Ok::<(), u8>(())).is_ok();
+    has_failed & is_poisoned & is_run & (once.state() == OnceState::Done)
+}
+
+#[test]
+fn a_once_fails_and_is_run(rt: HostRuntime) -> Result<(), Fail> {
+    let lot = ParkingLot::new(rt, rt.alloc(), 1, 7)?;
+    let mut me = lot.thread_data()?;
+    let table = LockTable::new(rt.alloc(), &lot, 1)?;
+    let once: Once<HostRuntime> = Once::new(&table)?;
+    assert!(rt; fails_and_is_run(&once, &mut me));
     Ok(())
 }
