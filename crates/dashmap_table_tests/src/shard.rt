@@ -75,10 +75,11 @@ fn full_slots_are_shown_together(rt: HostRuntime) {
     right &= shard.insert(7, 1u64, 2u64).is_ok() & (shard.slots() > 0);
     let full = shard.full_from(0);
     right &= full.first() == shard.next_from(0);
-    match full.first() {
-        Some(lane) => assert!(rt; right && full.without(lane).is_none()),
-        None => assert!(rt; false),
-    }
+    let is_alone = match full.first() {
+        Some(lane) => full.without(lane).is_none(),
+        None => false,
+    };
+    assert!(rt; right && is_alone);
 }
 
 const OF_ONE_HASH: &[Row] = &[
@@ -136,15 +137,24 @@ fn a_stored_key_stays_until_it_is_replaced(rt: HostRuntime) -> Result<(), Fail> 
     Ok(())
 }
 
+/// The slot of a key of another spelling, and the pair that is replaced there.
+fn replaced(
+    shard: &mut Shard<Word, u64>,
+    shown: &[u8; 3],
+    value: u64,
+) -> Option<(usize, [u8; 3], u64)> {
+    let key = spelled(shown);
+    let slot = shard.find(5, &key)?;
+    let (old, value) = shard.replace(slot, key, value)?;
+    Some((slot, old.shown, value))
+}
+
 #[test]
 fn replacing_gives_the_old_pair(rt: HostRuntime) -> Result<(), Fail> {
     let mut shard = Shard::new(rt.alloc());
     shard.insert(5, spelled(b"Key"), 2u64)?;
-    let upper = spelled(b"KEY");
-    let slot = shard.find(5, &upper).ok_or("no pair")?;
-    let (key, value) = shard.replace(slot, upper, 3).ok_or("no old pair")?;
-    assert!(rt; key.shown == *b"Key" && value == 2);
-    assert!(rt; has(&shard, slot, b"KEY", 3));
+    let (slot, shown, value) = replaced(&mut shard, b"KEY", 3).ok_or("no pair")?;
+    assert!(rt; shown == *b"Key" && value == 2 && has(&shard, slot, b"KEY", 3));
     Ok(())
 }
 
@@ -185,34 +195,31 @@ fn exchanged_pair(shard: &mut Shard<u64, u64>, slot: usize, by: u64) -> Option<(
     Some(pair)
 }
 
-/// The value of a slot, which is replaced.
-fn exchanged_value(shard: &mut Shard<u64, u64>, slot: usize, by: u64) -> Option<u64> {
+/// The value of a slot as one call lends it and as another one does, which is replaced by each.
+fn exchanged_values(
+    shard: &mut Shard<u64, u64>,
+    slot: usize,
+    first: u64,
+    second: u64,
+) -> Option<(u64, u64)> {
     let value = shard.value_mut(slot)?;
     let old = *value;
-    *value = by;
-    Some(old)
-}
-
-/// The same of the slot that an insertion at hash 9 gave.
-fn exchanged_after_insertion(shard: &mut Shard<u64, u64>, by: u64) -> Option<(usize, u64)> {
-    let slot = match shard.insert(9, 1, 2) {
-        Ok((slot, _)) => slot,
-        Err(_) => return None,
-    };
+    *value = first;
     let (_, value) = shard.lend(slot);
-    let old = *value;
-    *value = by;
-    Some((slot, old))
+    let between = *value;
+    *value = second;
+    Some((old, between))
 }
 
 #[test]
 fn slots_lend_their_pairs(rt: HostRuntime) -> Result<(), Fail> {
     let mut shard = Shard::new(rt.alloc());
-    let (slot, inserted) = exchanged_after_insertion(&mut shard, 3).ok_or("no memory")?;
-    let mut right = inserted == 2 && shard.hash_of(slot) == Some(9);
-    right &= shard.hash_of(slot + 1).is_none() & shard.pair_mut(slot + 1).is_none();
-    right &= exchanged_pair(&mut shard, slot, 4) == Some((1, 3));
-    right &= exchanged_value(&mut shard, slot, 5) == Some(4);
+    let (slot, _) = shard.insert(9, 1u64, 2u64)?;
+    let other = slot.wrapping_add(1);
+    let mut right = shard.hash_of(slot) == Some(9) && shard.hash_of(other).is_none();
+    right &= shard.pair_mut(other).is_none();
+    right &= exchanged_pair(&mut shard, slot, 3) == Some((1, 2));
+    right &= exchanged_values(&mut shard, slot, 4, 5) == Some((3, 4));
     assert!(rt; right && shard.remove(slot) == Some((1, 5)));
     Ok(())
 }

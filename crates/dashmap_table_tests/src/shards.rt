@@ -55,14 +55,20 @@ fn a_pair_lies_in_the_shard_of_its_route(rt: HostRuntime) -> Result<(), Fail> {
     Ok(())
 }
 
+/// Writes a value by the slot of a key, and tells whether no other slot or shard lends one.
+fn is_written(map: &mut Shards<u64, u64, Fold>, key: u64, value: u64) -> Option<bool> {
+    let (shard, slot) = map.find(&key)?;
+    *map.value_mut(shard, slot)? = value;
+    let is_alone = map.value_mut(shard, usize::MAX).is_none();
+    Some(is_alone & map.value_mut(9, slot).is_none())
+}
+
 #[test]
 fn values_are_lent_for_writing(rt: HostRuntime) -> Result<(), Fail> {
     let mut map = Shards::new(rt.alloc(), 2, Fold::new())?;
     let mut right = map.insert(1u64, 5u64) == Ok(None);
     right &= map.insert(1, 6) == Ok(Some(5));
-    let (shard, slot) = map.find(&1).ok_or("not found")?;
-    *map.value_mut(shard, slot).ok_or("nothing is lent")? = 7;
-    right &= map.value_mut(shard, usize::MAX).is_none() & map.value_mut(9, slot).is_none();
+    right &= is_written(&mut map, 1, 7) == Some(true);
     right &= map.remove(&1) == Some((1, 7));
     assert!(rt; right && map.remove(&1) == None);
     Ok(())

@@ -121,6 +121,37 @@ impl PlainList {
     }
 }
 
+/// What the same call does in a plain list.
+fn done_by_list(
+    list: &mut PlainList,
+    call: u64,
+    key: u64,
+    value: u64,
+) -> Result<Option<u64>, Fail> {
+    match call % 4 {
+        0 => Ok(list.take(key)),
+        1 => Ok(match list.position(key) {
+            Some(place) => list.places.get(place).copied().flatten().map(|pair| pair.1),
+            None => None,
+        }),
+        _ => list.put(key, value),
+    }
+}
+
+/// Whether a call does the same in a shard and in a list.
+fn are_twins(
+    shard: &mut Shard<u64, u64>,
+    list: &mut PlainList,
+    chance: &mut Chance,
+    value: u64,
+) -> Result<bool, Fail> {
+    let call = chance.next();
+    let key = chance.next() % 40;
+    let answer = done(shard, call, hash_of(key, key % 2 == 0), key, value);
+    let expected = done_by_list(list, call, key, value)?;
+    Ok((answer == expected) & (shard.len() == list.count()))
+}
+
 #[test]
 fn a_table_answers_as_a_plain_list_does(rt: HostRuntime) -> Result<(), Fail> {
     let mut shard = Shard::new(rt.alloc());
@@ -130,18 +161,7 @@ fn a_table_answers_as_a_plain_list_does(rt: HostRuntime) -> Result<(), Fail> {
     let mut chance = Chance { state: 11 };
     let mut right = true;
     for value in 0..3_000 {
-        let call = chance.next();
-        let key = chance.next() % 40;
-        let answer = done(&mut shard, call, hash_of(key, key % 2 == 0), key, value);
-        let expected = match call % 4 {
-            0 => list.take(key),
-            1 => match list.position(key) {
-                Some(place) => list.places.get(place).copied().flatten().map(|pair| pair.1),
-                None => None,
-            },
-            _ => list.put(key, value)?,
-        };
-        right &= (answer == expected) & (shard.len() == list.count());
+        right &= are_twins(&mut shard, &mut list, &mut chance, value)?;
     }
     assert!(rt; right);
     Ok(())

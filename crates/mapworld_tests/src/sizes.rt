@@ -40,7 +40,7 @@ fn answers_of_each(alloc: Global, keys: u64) -> Result<String, Fail> {
 /// What the calls of a world are answered that is run to its end.
 fn told_at_end(alloc: Global, world: &mut World) -> Result<String, Fail> {
     if step_round(world) && are_finished(world) {
-        told(alloc, world)
+        Ok(told(alloc, world)?)
     } else {
         Err("a thread isn't at its end".into())
     }

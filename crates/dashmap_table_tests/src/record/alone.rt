@@ -91,15 +91,15 @@ fn each_call_is_written_down(rt: HostRuntime) -> Result<(), Fail> {
     Ok(())
 }
 
-/// Makes a call of the table in that heap. One that is refused a growth writes nothing down and is made again. Whether it
+/// Makes the call of that number in that heap. One that is refused a growth writes nothing down and is made again. Whether it
 /// replies then as its row says.
 fn replies_again<'h, R: Wait + Drop>(
     map: &Map<R, &'h RefusingHeap<Global>>,
     me: &mut Caller<u64, u64, &'h RefusingHeap<Global>>,
     heap: &'h RefusingHeap<Global>,
     at: usize,
+    (call, reply): (Call<u64, u64>, CallReply<u64, u64>),
 ) -> bool {
-    let (call, reply) = CALLS[at % CALLS.len()];
     let refused = heap.refused();
     let said = make(map, call, me, &mut 1);
     if heap.refused() == refused {
@@ -125,8 +125,8 @@ fn run_again<R: Wait + Copy + Drop>(rt: R, heap: &RefusingHeap<Global>) -> Resul
     let Some(mut me) = callers.pop() else {
         return Err(0);
     };
-    for at in 0..CALLS.len() {
-        if !replies_again(&map, &mut me, heap, at) {
+    for (at, row) in CALLS.iter().enumerate() {
+        if !replies_again(&map, &mut me, heap, at, *row) {
             return Err(at);
         }
     }
