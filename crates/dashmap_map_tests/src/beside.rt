@@ -91,8 +91,8 @@ where
     last_difference(map, plain, me)
 }
 
-/// The first key, if any, that has another value in a map than in plain shards; or how many keys have one, where the map
-/// has others.
+/// The first key, if any, that has another value in a map than in plain shards; or how many keys have one, where the
+/// map has others.
 fn last_difference<S: BuildHasher, Q: RawRwLock, A: Allocator + Clone>(
     map: &Numbers<S, Q, A>,
     plain: &Plain,

@@ -61,8 +61,8 @@ where
     is_refused && (make(map, call, me) == wanted || matches!(call, Call::Many(_)))
 }
 
-/// Makes the calls of a table on an empty map in that heap, each again that is refused a growth. Fails with the number of
-/// the first row that is answered otherwise.
+/// Makes the calls of a table on an empty map in that heap, each again that is refused a growth. Fails with the number
+/// of the first row that is answered otherwise.
 fn run_again<R: Wait + Copy + Drop>(
     rt: R,
     heap: &RefusingHeap<Global>,

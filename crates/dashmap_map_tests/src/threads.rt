@@ -157,8 +157,8 @@ where
     }
 }
 
-/// Has four threads of a lot share a map over rows of a table: what 64 zeros add up to then, if each call was answered as
-/// it is to be.
+/// Has four threads of a lot share a map over rows of a table: what 64 zeros add up to then, if each call was answered
+/// as it is to be.
 fn shared_on<R: Wait + Threads + Sync>(
     rt: &R,
     alloc: Global,

@@ -113,10 +113,13 @@ fn a_refused_insertion_hands_the_key_back(rt: HostRuntime) -> Result<(), Fail> {
     for size in 0..80 {
         let heap = LocalHeap::new(rt.alloc(), size * 64)?;
         let kept = kept_in(rt, &heap);
-        unmade |= kept == Err(MapFault::NoMemory);
+        let is_right = match kept {
+            Ok(count) => count.is_some(),
+            Err(fault) => fault == MapFault::NoMemory,
+        };
+        assert!(rt; is_right, "of {size}");
+        unmade |= kept.is_err();
         whole |= kept == Ok(Some(12));
-        let count = kept.unwrap_or(Some(0));
-        assert!(rt; matches!(count, Some(count) if count <= 12), "of {size}");
         refused |= matches!(kept, Ok(Some(count)) if count < 12);
     }
     assert!(rt; unmade && refused && whole);

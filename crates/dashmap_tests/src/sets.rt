@@ -273,8 +273,8 @@ where
     is_refused && (make(set, call, me) == wanted || matches!(call, Call::InsertBelow(_)))
 }
 
-/// Makes the calls of a table on an empty set in that heap, each again that is refused a growth. Fails with the number of
-/// the first row that is answered otherwise.
+/// Makes the calls of a table on an empty set in that heap, each again that is refused a growth. Fails with the number
+/// of the first row that is answered otherwise.
 fn run_again<R: Wait + Copy + Drop>(
     rt: R,
     heap: &RefusingHeap<Global>,

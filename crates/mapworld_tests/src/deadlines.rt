@@ -29,8 +29,8 @@ fn refuses(world: &mut World, thread: usize) -> bool {
 const BESIDE_A_GUARD: &str =
     "thread a\n  get-mut 1\n    drop\nthread b\n  insert 1 9\nthread c\n  insert-until 1 7\n";
 
-/// Makes start, load, exchange, find and answer of thread 0, by which it holds the shard, and steps the others to sleep.
-/// Whether all steps were done, and no deadline comes on the way there, when nobody has begun or who begins is awake.
+/// Makes start, load, exchange, find and answer of thread 0, by which it holds the shard, and steps the others to
+/// sleep. Whether all steps were done, and no deadline comes on the way there, when nobody has begun or who begins is awake.
 fn come_to_sleep(world: &mut World) -> bool {
     let mut right = (0..3).all(|thread| refuses(world, thread));
     right &= step_times(world, 0, 5) && step_times(world, 2, 1);

@@ -104,7 +104,8 @@ fn calls_on_one_letter(alloc: Global) -> Result<Vec<Ask<Letter, u64, ReadKey>>, 
     ]?)
 }
 
-/// Whether of equal keys the last value and the first key were there at the start, and the insertion left the stored key.
+/// Whether of equal keys the last value and the first key were there at the start, and the insertion left the stored
+/// key.
 fn found_one_letter(world: &Letters) -> bool {
     let answers = world.replies();
     if answers.len() != 5 {

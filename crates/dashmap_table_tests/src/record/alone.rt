@@ -91,8 +91,8 @@ fn each_call_is_written_down(rt: HostRuntime) -> Result<(), Fail> {
     Ok(())
 }
 
-/// Makes the call of that number in that heap. One that is refused a growth writes nothing down and is made again. Whether it
-/// replies then as its row says.
+/// Makes the call of that number in that heap. One that is refused a growth writes nothing down and is made again.
+/// Whether it replies then as its row says.
 fn replies_again<'h, R: Wait + Drop>(
     map: &Map<R, &'h RefusingHeap<Global>>,
     me: &mut Caller<u64, u64, &'h RefusingHeap<Global>>,
