@@ -140,13 +140,14 @@ fn a_stored_key_stays_until_it_is_replaced(rt: HostRuntime) -> Result<(), Fail> 
 /// The slot of a key of another spelling, and the pair that is replaced there.
 fn replaced(
     shard: &mut Shard<Word, u64>,
-    shown: &[u8; 3],
+    spelling: &[u8; 3],
     value: u64,
 ) -> Option<(usize, [u8; 3], u64)> {
-    let key = spelled(shown);
+    let key = spelled(spelling);
     let slot = shard.find(5, &key)?;
     let (old, value) = shard.replace(slot, key, value)?;
-    Some((slot, old.shown, value))
+    let shown = old.shown;
+    Some((slot, shown, value))
 }
 
 #[test]
