@@ -1,1 +1,8 @@
-pub mod Closed
+mod Apart
+mod Closed
+mod Lists
+mod Lots
+mod Moves
+mod Queues
+mod Sifts
+mod Waiters
