@@ -104,3 +104,9 @@ apart_under key xs ys left apart is t =
     let m = often_append t xs ys in
     let n = often_append t xs (under key ys) in
     subst (λ zs. often t zs ≤ 1) (sym is) (omega arith)
+
+-- those that were taken of a list
+pub apart_taken : (xs some rest taken : List Waiting) → Apart xs → some ≡ taken
+    → ((t : ℕ) → often t rest + often t taken ≡ often t xs) → Apart some
+apart_taken xs some rest taken apart is parts =
+    subst Apart (sym is) (λ t. let a = apart t in let p = parts t in omega arith)

@@ -1,6 +1,6 @@
 -- No call that is done whole leaves a section open.
 use Rattle.std.proofs.Common.{◌≡◌, ◌∙◌, ◌||◌, ◌&&◌, ℕ, zero, suc, Bool, true, false, nat_lt, Option, Some, None}
-use Rattle.std.proofs.Common.{Result, ap}
+use Rattle.std.proofs.Common.{Result, IsOk, ap}
 use Rattle.std.proofs.Common.{cond, is_some, refl, IfSome, IfOk, IfErr, Ok, Err, true≢false}
 use Rattle.parking_lot_core_model.specs.declared.fault.LotFault.{LotFault}
 use Rattle.parking_lot_core_model.specs.declared.fault.LotFault.TheVariants.{TooManyThreads, Busy}
@@ -16,7 +16,8 @@ use Rattle.parking_lot_core_model.specs.declared.place.Place.{Place}
 use Rattle.parking_lot_core_model.specs.declared.place.Place.TheVariants.{Running, Waiting, Held, Taken}
 use Rattle.parking_lot_core_model.specs.declared.place.Section.{Section}
 use Rattle.parking_lot_core_model.specs.Buckets.{any_open}
-use Rattle.parking_lot_core_model.specs.Machine.{Machine, Unless, free_number, must_grow, register_fault, registered}
+use Rattle.parking_lot_core_model.specs.Machine.{Machine, Unless, Makes, free_number, must_grow, register_fault, registered}
+use Rattle.parking_lot_core_model.specs.Machine.{retired}
 use Rattle.parking_lot_core_model.specs.Operations.{Parks, ResumesFrom, UnparksOne, UnparksAll, UnparksByFilter}
 use Rattle.parking_lot_core_model.specs.Operations.{Requeues, UnparksAndRequeues}
 use Rattle.parking_lot_core.specs.Shared.{AreClosed}
@@ -34,6 +35,12 @@ module _ {T : Type 0} (result : Result T LotFault) (old new : Machine) (closed :
       → Unless fault result old new Done → AreClosed new
   closed_behind (Some fault) same d = stays old new (ap (λ (m : Machine). m.sections) d.1) closed
   closed_behind None same d = stays old new (same d) closed
+
+-- one who isn't registered any more stood in no list
+pub retires : {T : Type 0} (fault : Option LotFault) (result : Result T LotFault) (old new : Machine) (thread : ℕ)
+    → IsOk result → Unless fault result old new (Makes (λ m. retired m thread) old result new) → new.queues ≡ old.queues
+retires None result old new thread ok d = ap (λ (m : Machine). m.queues) d.1
+retires (Some fault) result old new thread ok d = ap (λ (m : Machine). m.queues) d.1
 
 module _ (old new : Machine) where
   pub parks : (validates : Bool → Type 0) (thread key : ℕ) (token : ParkToken) (timed : Bool)

@@ -1,8 +1,10 @@
 mod Apart
 mod Closed
+mod Crossing
 mod Lists
 mod Lots
 mod Moves
 mod Queues
+mod Requeued
 mod Sifts
 mod Waiters

@@ -5,6 +5,7 @@ use Rattle.std.proofs.Common.{not}
 use mathlib.Core.Logic.{inl, inr}
 use Rattle.std.specs.Option.{option_map_or}
 use Rattle.std.proofs.lemmas.Bool.{false≢true}
+use Rattle.std.proofs.lemmas.List.Sums.{sum_by-cons}
 use Rattle.parking_lot_core_model.specs.declared.place.Place.{Place}
 use Rattle.parking_lot_core_model.specs.declared.place.Place.TheVariants.{Running, Waiting, Held, Taken}
 use Rattle.parking_lot_core_model.specs.declared.place.Section.{Section}
@@ -37,7 +38,7 @@ seat_or f (suc n) (suc t) = further (seat_or (λ u. f (suc u)) n t)
   where
     further : (place_at (seats (λ u. f (suc u)) n) t ≡ Some (f (suc t)))
         ⊎ ((place_at (seats (λ u. f (suc u)) n) t ≡ None) × (n ≤ t))
-        → (place_at (seats f (suc n)) (suc t) ≡ Some (f (suc t))) ⊎ ((place_at (seats f (suc n)) (suc t) ≡ None) × (suc n ≤ t + 1))
+        → (place_at (seats f (suc n)) (suc t) ≡ Some (f (suc t))) ⊎ ((place_at (seats f (suc n)) (suc t) ≡ None) × (suc n ≤ suc t))
     further (inl e) = inl e
     further (inr (e, h)) = inr (e, omega arith)
 
@@ -82,19 +83,22 @@ module _ (f : ℕ → Place) (queues : ℕ → List Waiter) (n : ℕ)
       both (inr (e, l)) = absurd (false≢true (ap (λ o. option_map_or (is_held key) o false) (sym e) ∙ h))
 
   pub quiet : IsQuiet (lot_with f queues n)
-  quiet = (record {
-    waits = waits_there;
-    held = held_there;
-    inside = λ b section thread e. absurd (none≢some e);
-    near = λ thread key e. absurd (none≢some e);
-    fit = record {
-      some = omega arith;
-      bucket = λ b section e. absurd (none≢some e);
-      owner = λ b section thread e. absurd (none≢some e);
-      entered = λ thread key e. absurd (none≢some e);
-    };
-    owned = λ thread e. refl;
-  }, λ bucket. refl)
+  quiet = (
+    record {
+      waits = waits_there;
+      held = held_there;
+      inside = λ b section thread e. absurd (none≢some e);
+      near = λ thread key e. absurd (none≢some e);
+      fit = record {
+        some = omega arith;
+        bucket = λ b section e. absurd (none≢some e);
+        owner = λ b section thread e. absurd (none≢some e);
+        entered = λ thread key e. absurd (none≢some e);
+      };
+      owned = λ thread e. refl;
+    },
+    λ bucket. refl,
+  )
 
 -- THE LOT OF A LIST
 
@@ -104,18 +108,23 @@ standing late [] t = Running
 standing late (w ∷ ws) t =
     cond (w.waiter.thread == t) (Waiting w.key (record { mark = 0; timed = w.timed; late = late t })) (standing late ws t)
 
+-- one more in front
+count_cons : (t : ℕ) (w : Waiter) (ws : List Waiter)
+    → count_by (is_thread t) (w ∷ ws) ≡ cond {A = ℕ} (w.thread == t) 1 0 + count_by (is_thread t) ws
+count_cons t w ws = sum_by-cons (λ x. cond {A = ℕ} (is_thread t x) 1 0) w ws
+
 -- who isn't there stands in no list
 unlisted : (t key : ℕ) (xs : List chain.Waiting) → often t xs ≡ 0 → count_by (is_thread t) (queue xs key) ≡ 0
 unlisted t key [] e = refl
 unlisted t key (x ∷ xs) e =
     let i = unlisted t key xs in
     by_test (x.waiter.thread == t) (count_by (is_thread t) (queue (x ∷ xs) key) ≡ 0)
-    (λ h. absurd (let n : cond (x.waiter.thread == t) 1 0 ≡ 1 = ap (λ b. cond b 1 0) h in omega arith))
+    (λ h. absurd (let n : cond {A = ℕ} (x.waiter.thread == t) 1 0 ≡ 1 = ap (λ b. cond {A = ℕ} b 1 0) h in omega arith))
     (λ h.
-        let z : often t xs ≡ 0 = (let n : cond (x.waiter.thread == t) 1 0 ≡ 0 = ap (λ b. cond b 1 0) h in omega arith) in
-        let c : count_by (is_thread t) (x.waiter ∷ queue xs key) ≡ 0 =
-        (let n : cond (x.waiter.thread == t) 1 0 ≡ 0 = ap (λ b. cond b 1 0) h in let y = i z in omega arith) in
-        either (x.key == key) c (i z))
+    let z : often t xs ≡ 0 = (let n : cond {A = ℕ} (x.waiter.thread == t) 1 0 ≡ 0 = ap (λ b. cond {A = ℕ} b 1 0) h in omega arith) in
+    let c : count_by (is_thread t) (x.waiter ∷ queue xs key) ≡ 0 =
+    (let m = count_cons t x.waiter (queue xs key) in let n : cond {A = ℕ} (x.waiter.thread == t) 1 0 ≡ 0 = ap (λ b. cond {A = ℕ} b 1 0) h in let y = i z in omega arith) in
+    either (x.key == key) c (i z))
   where
     either : (b : Bool) → count_by (is_thread t) (x.waiter ∷ queue xs key) ≡ 0
         → count_by (is_thread t) (queue xs key) ≡ 0
@@ -135,21 +144,24 @@ module _ (late : ℕ → Bool) (t key : ℕ) where
       by_test (x.waiter.thread == t)
       (count_by (is_thread t) (queue (x ∷ xs) key) ≡ times_at key (Some (standing late (x ∷ xs) t)))
       (λ e.
-          let one : cond (x.waiter.thread == t) 1 0 ≡ 1 = ap (λ b. cond b 1 0) e in
-          let none = unlisted t key xs (omega arith) in
-          let c : count_by (is_thread t) (x.waiter ∷ queue xs key) ≡ 1 = omega arith in
-          both (x.key == key) c none ∙ sym (ap (λ b. times_at key (Some (cond b here (s t)))) e))
+      let one : cond {A = ℕ} (x.waiter.thread == t) 1 0 ≡ 1 = ap (λ b. cond {A = ℕ} b 1 0) e in
+      let none = unlisted t key xs (omega arith) in
+      let more = count_cons t x.waiter (queue xs key) in
+      let c : count_by (is_thread t) (x.waiter ∷ queue xs key) ≡ 1 = omega arith in
+      both (x.key == key) c none ∙ sym (ap (λ b. times_at key (Some (cond b here (s t)))) e))
       (λ e.
-          let zero : cond (x.waiter.thread == t) 1 0 ≡ 0 = ap (λ b. cond b 1 0) e in
-          let j = i (omega arith) in
-          let c : count_by (is_thread t) (x.waiter ∷ queue xs key) ≡ count_by (is_thread t) (queue xs key) = omega arith in
-          same (x.key == key) c ∙ (j ∙ sym (ap (λ b. times_at key (Some (cond b here (s t)))) e)))
+      let zero : cond {A = ℕ} (x.waiter.thread == t) 1 0 ≡ 0 = ap (λ b. cond {A = ℕ} b 1 0) e in
+      let j = i (omega arith) in
+      let more = count_cons t x.waiter (queue xs key) in
+      let c : count_by (is_thread t) (x.waiter ∷ queue xs key) ≡ count_by (is_thread t) (queue xs key) = omega arith in
+      same (x.key == key) c ∙ (j ∙ sym (ap (λ b. times_at key (Some (cond b here (s t)))) e)))
     where
       both : (b : Bool) → count_by (is_thread t) (x.waiter ∷ queue xs key) ≡ 1
           → count_by (is_thread t) (queue xs key) ≡ 0
           → count_by (is_thread t) (cond b (x.waiter ∷ queue xs key) (queue xs key)) ≡ cond b 1 0
       both true c d = c
       both false c d = d
+
       same : (b : Bool) → count_by (is_thread t) (x.waiter ∷ queue xs key) ≡ count_by (is_thread t) (queue xs key)
           → count_by (is_thread t) (cond b (x.waiter ∷ queue xs key) (queue xs key)) ≡ count_by (is_thread t) (queue xs key)
       same true c = c
@@ -174,7 +186,7 @@ beyond t [] h = refl
 beyond t (x ∷ xs) h =
     by_test (x.waiter.thread == t) (often t (x ∷ xs) ≡ 0)
     (λ e. absurd (let same = eqb-true x.waiter.thread t e in omega arith))
-    (λ e. let zero : cond (x.waiter.thread == t) 1 0 ≡ 0 = ap (λ b. cond b 1 0) e in let i = beyond t xs (omega arith) in omega arith)
+    (λ e. let zero : cond {A = ℕ} (x.waiter.thread == t) 1 0 ≡ 0 = ap (λ b. cond {A = ℕ} b 1 0) e in let i = beyond t xs (omega arith) in omega arith)
 
 -- it has so many places more
 abbrev pub lot_of : (ℕ → Bool) → ℕ → List chain.Waiting → Machine
@@ -215,6 +227,7 @@ told_quiet thread token =
         (cond b (Taken token 0 (record { mark = 0; timed = false; late = false }) true) Running))
     nowhere key true = refl
     nowhere key false = refl
+
     free : (key : ℕ) (b : Bool)
         → is_held key (cond b (Taken token 0 (record { mark = 0; timed = false; late = false }) true) Running) ≡ false
     free key true = refl

@@ -14,6 +14,7 @@ use Rattle.parking_lot_core_model.specs.declared.parking.UnparkResult.{UnparkRes
 use Rattle.parking_lot_core_model.specs.declared.parking.UnparkToken.{UnparkToken}
 use Rattle.parking_lot_core_model.specs.declared.place.Place.{Place}
 use Rattle.parking_lot_core_model.specs.declared.place.Place.TheVariants.{Running, Waiting, Taken}
+use Rattle.parking_lot_core_model.specs.declared.place.Sleep.{Sleep}
 use Rattle.parking_lot_core_model.specs.declared.place.Waiter.{Waiter}
 use Rattle.parking_lot_core_model.specs.Lists.{updated, without_first}
 use Rattle.parking_lot_core_model.specs.Machine.{Machine, Unless, Does, busy, enter_fault, resume_fault, resume_fault_at}
@@ -79,8 +80,12 @@ module _ (xs left : List chain.Waiting) (apart : Apart xs) (held : Held xs left)
   pub one_is_unparked : (gives : UnparkResult → UnparkToken → Type 0) (fair : Bool) (taken : List chain.Waiting)
       (result : UnparkResult) (token : UnparkToken) → left ≡ without (fits (Key key)) xs
       → taken ≡ found (fits (Key key)) xs ++ []
-      → result ≡ record { unparked_threads = length taken; requeued_threads = 0;
-        have_more_threads = any (fits (Key key)) left; be_fair = fair } → gives result token
+      → result ≡ record {
+        unparked_threads = length taken;
+        requeued_threads = 0;
+        have_more_threads = any (fits (Key key)) left;
+        be_fair = fair;
+      } → gives result token
       → OnSomeLot (λ k. k == key) (Does (busy key) (UnparksOne fair gives key)) result
   one_is_unparked gives fair taken result token l t is given =
       let q = queue xs key in
@@ -123,8 +128,12 @@ module _ (xs left : List chain.Waiting) (apart : Apart xs) (held : Held xs left)
 
   module _ {F : Type 0} (shows : F → ParkToken → FilterOp → F → Type 0) (filter : F) (fair : Bool)
       (taken : List chain.Waiting) (result : UnparkResult)
-      (is : result ≡ record { unparked_threads = length taken; requeued_threads = 0;
-        have_more_threads = any (fits (Key key)) left; be_fair = fair }) where
+      (is : result ≡ record {
+        unparked_threads = length taken;
+        requeued_threads = 0;
+        have_more_threads = any (fits (Key key)) left;
+        be_fair = fair;
+      }) where
     -- what a filter did with the list
     abbrev pub Sifts : Type 0
     Sifts = (answers : List FilterOp) × (last : F) × Answers shows is_stop filter (tokens_of (queue xs key)) answers last
@@ -161,9 +170,7 @@ module _ (xs left : List chain.Waiting) (apart : Apart xs) (held : Held xs left)
               sifts.1,
               token,
               sifts.2,
-              subst (λ r. gives r token) sifted_answer given,
-              ap Ok sifted_answer,
-              refl,
+              (subst (λ r. gives r token) sifted_answer given, ap Ok sifted_answer, refl),
             ),
             unpark_spares xs left apart held key (chosen_by answers q) (passed_by answers q) at else token,
             unpark_held xs left apart held key (chosen_by answers q) (passed_by answers q) at else token,
@@ -227,7 +234,7 @@ module _ (xs left : List chain.Waiting) (apart : Apart xs) (held : Held xs left)
         parking,
         new,
         lot_quiet (λ t. false) (w.waiter.thread + 1) xs apart,
-        subst (λ o. Unless o (Ok None) parking new (Park (Ok None) new)) (sym may_enter) (true, valid, refl, refl),
+        subst (λ o. Unless {T = Option ParkResult} o (Ok None) parking new (Park (Ok None) new)) (sym may_enter) (true, valid, refl, refl),
         (λ k e. ap (λ b. cond b rest (queue xs k)) e),
         held parking new (λ k. refl) (lists_updated xs left w.key rest at else),
       )
@@ -244,10 +251,9 @@ pub one_goes_on : (tells : ℕ → Bool → Type 0) (thread : ℕ) (token : Unpa
     → OnSomeLot (λ k. k == 0) (Does (λ m. resume_fault m thread) (Resumes tells thread)) (Unparked token)
 one_goes_on tells thread token held =
     let old = told_lot thread token in
-    let sleep = record { mark = 0; timed = false; late = false } in
+    let sleep : Sleep = record { mark = 0; timed = false; late = false } in
     let there = told_there thread token in
-    let new = record old { places = slice_set old.places thread (Some Running) } in
-    (
+    let new = record old { places = slice_set old.places thread (Some Running) } in (
       old,
       new,
       told_quiet thread token,
@@ -283,7 +289,7 @@ module _ (t : ℕ) where
       × (queue (without (fits (Thread t)) (x ∷ xs)) w.key ≡ without_first (is_thread t) (queue (x ∷ xs) w.key))
       × ((k : ℕ) → (k == w.key) ≡ false → queue (without (fits (Thread t)) (x ∷ xs)) k ≡ queue (x ∷ xs) k) in
       let go = sits late xs in
-      let sleep = record { mark = 0; timed = x.timed; late = late t } in
+      let sleep : Sleep = record { mark = 0; timed = x.timed; late = late t } in
       let gone = without (fits (Thread t)) xs in
       by_test (x.waiter.thread == t) goes
       (λ h. (
@@ -296,19 +302,19 @@ module _ (t : ℕ) where
         (λ k o. ap (λ b. queue (cond b xs (x ∷ gone)) k) h ∙ sym (queue_there x xs k (turned x.key k o))),
       ))
       (λ h.
-          let r = go (sym (ap (λ b. cond b true (any (fits (Thread t)) xs)) h) ∙ e) in
-          let w = r.0 in
-          (
-            w,
-            ap (λ b. cond b (x ∷ []) (found (fits (Thread t)) xs)) h ∙ r.1,
-            ap (λ b. cond b (Waiting x.key sleep) (standing late xs t)) h ∙ r.2,
-            ap (λ b. queue (cond b xs (x ∷ gone)) w.key) h ∙ (at (x.key == w.key) w.key h r.3),
-            (λ k o. ap (λ b. queue (cond b xs (x ∷ gone)) k) h ∙ ap (λ ws. cond (x.key == k) (x.waiter ∷ ws) ws) (r.4 k o)),
-          ))
+      let r = go (sym (ap (λ b. cond b true (any (fits (Thread t)) xs)) h) ∙ e) in
+      let w = r.0 in (
+        w,
+        ap (λ b. cond b (x ∷ []) (found (fits (Thread t)) xs)) h ∙ r.1,
+        ap (λ b. cond b (Waiting x.key sleep) (standing late xs t)) h ∙ r.2,
+        ap (λ b. queue (cond b xs (x ∷ gone)) w.key) h ∙ (at (x.key == w.key) w.key h r.3),
+        (λ k o. ap (λ b. queue (cond b xs (x ∷ gone)) k) h ∙ ap (λ ws. cond (x.key == k) (x.waiter ∷ ws) ws) (r.4 k o)),
+      ))
     where
       turned : (key k : ℕ) → (k == key) ≡ false → (key == k) ≡ false
       turned key k e = by_test (key == k) ((key == k) ≡ false)
           (λ h. absurd (false≢true (sym e ∙ eq-eqb k key (sym (eqb-true key k h))))) (λ h. h)
+
       at : (b : Bool) (key : ℕ) → (x.waiter.thread == t) ≡ false
           → queue (without (fits (Thread t)) xs) key ≡ without_first (is_thread t) (queue xs key)
           → cond b (x.waiter ∷ queue (without (fits (Thread t)) xs) key) (queue (without (fits (Thread t)) xs) key)
@@ -335,7 +341,7 @@ module _ (t : ℕ) where
         let old = sleeping in
         let new = given_up old t w.key in
         let rest = without_first (is_thread t) (queue xs w.key) in
-        let sleep = record { mark = 0; timed = w.timed; late = true } in
+        let sleep : Sleep = record { mark = 0; timed = w.timed; late = true } in
         let place : place_at old.places t ≡ Some (Waiting w.key sleep) =
         seat_at (standing (λ u. true) xs) (bound xs + (t + 1)) t (omega arith) ∙ ap Some seat.2 in
         let at : queue left w.key ≡ rest = ap (λ ys. queue ys w.key) l ∙ seat.3 in
@@ -343,8 +349,7 @@ module _ (t : ℕ) where
         λ k e. ap (λ ys. queue ys k) l ∙ seat.4 k e in
         let same = lists_updated xs left w.key rest at else in
         let last : not (any (fits (Key w.key)) left) ≡ not (is_left (new.queues w.key)) =
-        ap not (any_waits w.key left ∙ ap is_left (sym (same w.key))) in
-        (
+        ap not (any_waits w.key left ∙ ap is_left (sym (same w.key))) in (
           old,
           new,
           lot_quiet (λ u. true) (t + 1) xs apart,

@@ -1,6 +1,6 @@
 -- What those that are taken and left are to each key.
 use Rattle.std.proofs.Common.{◌≡◌, ◌∙◌, ◌∷◌, ◌++◌, ◌+◌, ◌==◌, [], List, refl, sym, ap, subst, Bool, true, false, cond, ℕ}
-use Rattle.std.proofs.Common.{take, drop, length, eqb-true, eq-eqb, arith}
+use Rattle.std.proofs.Common.{take, drop, length, suc, eqb-true, eq-eqb, arith}
 use Rattle.std.proofs.lemmas.Bool.{false≢true}
 use Rattle.std.proofs.lemmas.List.{append-nil}
 use Rattle.parking_lot_core_model.specs.declared.place.Waiter.{Waiter}
@@ -20,7 +20,7 @@ by_test b P f g =
     both b refl
 
 -- another key
-other_key : (x k key : ℕ) → (x == key) ≡ true → (k == key) ≡ false → (x == k) ≡ false
+pub other_key : (x k key : ℕ) → (x == key) ≡ true → (k == key) ≡ false → (x == k) ≡ false
 other_key x k key here there = by_test (x == k) ((x == k) ≡ false)
     (λ e. absurd (false≢true (sym there ∙ eq-eqb k key (sym (eqb-true x k e) ∙ eqb-true x key here)))) (λ e. e)
 
@@ -137,6 +137,7 @@ module _ (key : ℕ) where
       shown (Unpark ∷ answers) i e = i
       shown (Skip ∷ answers) i e = queue_here x (kept key answers xs) key e ∙ ap (λ ws. x.waiter ∷ ws) i
       shown (Stop ∷ answers) i e = queue_here x (kept key [] xs) key e ∙ ap (λ ws. x.waiter ∷ ws) i
+
       both : (answers : List FilterOp) → queue (kept key (behind answers) xs) key ≡ passed_by (behind answers) (queue xs key)
           → queue (kept key answers xs) key ≡ passed_by answers (queue xs key)
           → queue (kept key answers (x ∷ xs)) key ≡ passed_by answers (queue (x ∷ xs) key)
@@ -190,19 +191,19 @@ module _ (key : ℕ) where
         let v = kept key answers xs in
         by_test (x.key == key) (queue (kept key answers (x ∷ xs)) k ≡ queue (x ∷ xs) k)
         (λ e.
-            let there = other_key x.key k key e else in
-            ap (λ b. queue (cond b (cond (takes answers) w (x ∷ w)) (x ∷ v)) k) e
-            ∙ (by_test (takes answers) (queue (cond (takes answers) w (x ∷ w)) k ≡ queue xs k)
-            (λ t. ap (λ b. queue (cond b w (x ∷ w)) k) t ∙ i)
-            (λ t. ap (λ b. queue (cond b w (x ∷ w)) k) t ∙ (queue_there x w k there ∙ i))
-            ∙ sym (queue_there x xs k there)))
+        let there = other_key x.key k key e else in
+        ap (λ b. queue (cond b (cond (takes answers) w (x ∷ w)) (x ∷ v)) k) e
+        ∙ (by_test (takes answers) (queue (cond (takes answers) w (x ∷ w)) k ≡ queue xs k)
+        (λ t. ap (λ b. queue (cond b w (x ∷ w)) k) t ∙ i)
+        (λ t. ap (λ b. queue (cond b w (x ∷ w)) k) t ∙ (queue_there x w k there ∙ i))
+        ∙ sym (queue_there x xs k there)))
         (λ e. ap (λ b. queue (cond b (cond (takes answers) w (x ∷ w)) (x ∷ v)) k) e
         ∙ ap (λ ws. cond (x.key == k) (x.waiter ∷ ws) ws) j)
 
 -- how many they are
 pub count_of : (xs : List Waiting) → length xs ≡ length (waiters_of xs)
 count_of [] = refl
-count_of (x ∷ xs) = ap (λ n. n + 1) (count_of xs)
+count_of (x ∷ xs) = ap suc (count_of xs)
 
 pub count_onto : (xs ys : List Waiting) → length (onto xs ys) ≡ length xs + length ys
 count_onto [] ys = omega arith

@@ -9,7 +9,7 @@ use Rattle.parking_lot_core_model.specs.declared.place.Waiter.{Waiter}
 use Rattle.parking_lot_core.specs.declared.chain.Chain.{Chain, Nil, Link'}
 use Rattle.parking_lot_core.specs.declared.chain.Waiting.{Waiting}
 use Rattle.parking_lot_core.specs.declared.chain.Wanted.{Wanted}
-use Rattle.parking_lot_core.specs.declared.chain.Wanted.TheVariants.{Key, Thread, Bucket}
+use Rattle.parking_lot_core.specs.declared.chain.Wanted.TheVariants.{Key, Thread, Within}
 
 -- what a chain holds
 abbrev pub items : {A : Type 0} → Chain A → List Waiting
@@ -20,7 +20,7 @@ items (Link' p waiting next) = waiting ∷ items next
 abbrev pub fits : Wanted → Waiting → Bool
 fits (Key key) w = w.key == key
 fits (Thread thread) w = w.waiter.thread == thread
-fits (Bucket bucket count) w = nat_lt 0 count && ((w.key % count) == bucket)
+fits (Within bucket count) w = nat_lt 0 count && ((w.key % count) == bucket)
 
 -- the first list, moved one by one to the front of the second
 abbrev pub onto : List Waiting → List Waiting → List Waiting

@@ -3,7 +3,7 @@ ghost use Rattle.std.specs.Prelude.{◌≡◌, ◌<◌, ◌+◌, ◌%◌, ◌==�
 ghost use Rattle.parking_lot_core_model.specs.declared.parking.FilterOp.{FilterOp};
 ghost use Rattle.parking_lot_core_model.specs.Results.{Answers, is_stop};
 ghost use Rattle.parking_lot_core_model.specs.Machine.{tokens_of};
-ghost use Rattle.parking_lot_core.specs.declared.chain.Wanted.TheVariants.{Thread, Bucket};
+ghost use Rattle.parking_lot_core.specs.declared.chain.Wanted.TheVariants.{Thread, Within};
 ghost use Rattle.parking_lot_core.specs.Waits.{items, fits, onto, without, found, every, others, any, under, queue};
 ghost use Rattle.parking_lot_core.specs.Waits.{picked, kept, Apart};
 ghost use Rattle.parking_lot_core.specs.Lines.{waits};
@@ -110,12 +110,12 @@ impl<A: Allocator> Bucket<A> {
 
     /// Has all move: those whose bucket of so many is that one are in the second result, the others in the first.
     pub fn part(&mut self, bucket: usize, count: usize) -> (Bucket<A>, Bucket<A>)
-        ensures low { waits result.0.line ≡ others (fits (Bucket bucket count)) (waits self.old.line) }
-        ensures high { waits result.1.line ≡ every (fits (Bucket bucket count)) (waits self.old.line) }
+        ensures low { waits result.0.line ≡ others (fits (Within bucket count)) (waits self.old.line) }
+        ensures high { waits result.1.line ≡ every (fits (Within bucket count)) (waits self.old.line) }
         ensures left { waits self.new.line ≡ [] }
     {
         let mut high = Chain::Nil;
-        self.take_all(Wanted::Bucket(bucket, count), &mut high);
+        self.take_all(Wanted::Within(bucket, count), &mut high);
         self.moved = true;
         let low = mem::replace(&mut self.line, Line::new());
         (

@@ -29,7 +29,7 @@ pub(crate) enum Wanted {
     /// The thread of this number.
     Thread(usize),
     /// Who waits under a key of that bucket, of so many.
-    Bucket(usize, usize),
+    Within(usize, usize),
 }
 
 /// A waiter and those behind it.
@@ -56,7 +56,7 @@ impl Wanted {
         match self {
             Wanted::Key(key) => waiting.key == key,
             Wanted::Thread(thread) => waiting.waiter.thread == thread,
-            Wanted::Bucket(bucket, count) => waiting.key.checked_rem(count) == Some(bucket),
+            Wanted::Within(bucket, count) => waiting.key.checked_rem(count) == Some(bucket),
         }
     }
 }

@@ -149,8 +149,7 @@ impl<R: Wait, A: Allocator + Clone> ParkingLot<R, A> {
         ensures full { IfErr result (IsRefused self.now.max_threads) }
     {
         let mut state = self.state.lock(&self.rt);
-        let (made, grown) =
-            state.admit(self.number, self.max_threads, &self.seats, &self.table)?;
+        let (made, grown) = state.admit(self.number, self.max_threads, &self.seats, &self.table)?;
         if let Some(buckets) = grown {
             self.table.grow(&self.rt, buckets);
         }

@@ -44,11 +44,7 @@ fn take_for<A: Allocator>(
 }
 
 /// Takes those of a key that the operation wakes, and those that it moves, in their order.
-fn pull<A: Allocator>(
-    bucket: &mut Bucket<A>,
-    op: RequeueOp,
-    key: usize,
-) -> (Chain<A>, Chain<A>)
+fn pull<A: Allocator>(bucket: &mut Bucket<A>, op: RequeueOp, key: usize) -> (Chain<A>, Chain<A>)
     ensures left { waits bucket.new.line ≡ rest_of op key (waits bucket.old.line) }
     ensures woken { items result.0 ≡ woken_of op key (waits bucket.old.line) }
     ensures moved { items result.1 ≡ moved_of op key (waits bucket.old.line) }
@@ -126,6 +122,9 @@ where
     ensures done { OnSomeLot (λ k. (k == key_from) || (k == key_to)) (Does (either_busy key_from key_to)
         (UnparksAndRequeues (V.post validate) (C.post callback) key_from key_to)) result }
 {
+    if key_from == key_to {
+        match stuck(&lot.rt) {}
+    }
     let (mut source, found_source) = kept_as_found(source);
     let (mut target, found_target) = kept_as_found(target);
     let op = validate();

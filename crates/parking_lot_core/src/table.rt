@@ -191,12 +191,7 @@ fn empty<A: Allocator>(alloc: A, count: usize) -> Result<Buckets<A>, AllocError>
 }
 
 /// Has the waiters of a bucket move to its two of the next level, the lower first.
-fn move_bucket<R: Wait, A: Allocator>(
-    rt: &R,
-    old: &[Locked<A>],
-    new: &[Locked<A>],
-    bucket: usize,
-) {
+fn move_bucket<R: Wait, A: Allocator>(rt: &R, old: &[Locked<A>], new: &[Locked<A>], bucket: usize) {
     let count = new.len();
     let upper = bucket.wrapping_add(old.len());
     let (Some(from), Some(low), Some(high)) = (old.get(bucket), new.get(bucket), new.get(upper))
