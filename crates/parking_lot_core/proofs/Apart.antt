@@ -1,5 +1,6 @@
 -- How often a thread stands in a list.
-use Rattle.std.proofs.Common.{◌≡◌, ◌∙◌, ◌∷◌, ◌++◌, ◌+◌, ◌≤◌, ◌==◌, [], List, refl, sym, ap, subst, Bool, true, false, cond, ℕ}
+use Rattle.std.proofs.Common.{◌≡◌, ◌∙◌, ◌∷◌, ◌++◌, ◌+◌, ◌≤◌, ◌==◌, [], List, refl, sym, ap, subst, Bool, true, false}
+use Rattle.std.proofs.Common.{cond, ℕ}
 use Rattle.std.proofs.Common.{arith, eqb-true}
 use Rattle.std.proofs.lemmas.Bool.{false≢true}
 use Rattle.parking_lot_core_model.specs.declared.parking.FilterOp.{FilterOp}
@@ -26,7 +27,8 @@ module _ (t : ℕ) where
   often_without p [] = refl
   often_without p (x ∷ xs) = both (often_without p xs) (p x)
     where
-      both : often t (without p xs) + often t (found p xs) ≡ often t xs → (b : Bool) → often t (cond b xs (x ∷ without p xs)) + often t (cond b (x ∷ []) (found p xs))
+      both : often t (without p xs) + often t (found p xs) ≡ often t xs → (b : Bool)
+          → often t (cond b xs (x ∷ without p xs)) + often t (cond b (x ∷ []) (found p xs))
           ≡ often t (x ∷ xs)
       both i true = omega arith
       both i false = omega arith
@@ -36,7 +38,8 @@ module _ (t : ℕ) where
   often_others p [] = refl
   often_others p (x ∷ xs) = both (often_others p xs) (p x)
     where
-      both : often t (others p xs) + often t (every p xs) ≡ often t xs → (b : Bool) → often t (cond b (others p xs) (x ∷ others p xs))
+      both : often t (others p xs) + often t (every p xs) ≡ often t xs → (b : Bool)
+          → often t (cond b (others p xs) (x ∷ others p xs))
           + often t (cond b (x ∷ every p xs) (every p xs)) ≡ often t (x ∷ xs)
       both i true = omega arith
       both i false = omega arith
@@ -48,7 +51,8 @@ module _ (t : ℕ) where
       both (often_kept key (behind answers) xs) (often_kept key answers xs) (x.key == key) (takes answers)
     where
       both : often t (kept key (behind answers) xs) + often t (picked key (behind answers) xs) ≡ often t xs
-          → often t (kept key answers xs) + often t (picked key answers xs) ≡ often t xs → (b c : Bool) → often t (cond b (cond c (kept key (behind answers) xs) (x ∷ kept key (behind answers) xs))
+          → often t (kept key answers xs) + often t (picked key answers xs) ≡ often t xs → (b c : Bool)
+          → often t (cond b (cond c (kept key (behind answers) xs) (x ∷ kept key (behind answers) xs))
           (x ∷ kept key answers xs))
           + often t (cond b (cond c (x ∷ picked key (behind answers) xs) (picked key (behind answers) xs))
           (picked key answers xs)) ≡ often t (x ∷ xs)
@@ -61,7 +65,8 @@ module _ (t : ℕ) where
   absent [] e = refl
   absent (x ∷ xs) e = both (absent xs) (x.waiter.thread == t) e
     where
-      both : (any (fits (Thread t)) xs ≡ false → often t xs ≡ 0) → (b : Bool) → cond b true (any (fits (Thread t)) xs) ≡ false → cond b 1 0 + often t xs ≡ 0
+      both : (any (fits (Thread t)) xs ≡ false → often t xs ≡ 0) → (b : Bool)
+          → cond b true (any (fits (Thread t)) xs) ≡ false → cond b 1 0 + often t xs ≡ 0
       both i true e = absurd (false≢true (sym e))
       both i false e = let z = i e in omega arith
 

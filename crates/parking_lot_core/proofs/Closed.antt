@@ -16,7 +16,8 @@ use Rattle.parking_lot_core_model.specs.declared.place.Place.{Place}
 use Rattle.parking_lot_core_model.specs.declared.place.Place.TheVariants.{Running, Waiting, Held, Taken}
 use Rattle.parking_lot_core_model.specs.declared.place.Section.{Section}
 use Rattle.parking_lot_core_model.specs.Buckets.{any_open}
-use Rattle.parking_lot_core_model.specs.Machine.{Machine, Unless, Makes, free_number, must_grow, register_fault, registered}
+use Rattle.parking_lot_core_model.specs.Machine.{Machine, Unless, Makes, free_number, must_grow, register_fault}
+use Rattle.parking_lot_core_model.specs.Machine.{registered}
 use Rattle.parking_lot_core_model.specs.Machine.{retired}
 use Rattle.parking_lot_core_model.specs.Operations.{Parks, ResumesFrom, UnparksOne, UnparksAll, UnparksByFilter}
 use Rattle.parking_lot_core_model.specs.Operations.{Requeues, UnparksAndRequeues}

@@ -13,19 +13,27 @@ use Rattle.parking_lot_core_model.specs.Operations.{UnparksAndRequeues, is_abort
 use Rattle.parking_lot_core_model.specs.Results.{unpark_result, moved_by, left_by}
 use Rattle.parking_lot_core.specs.declared.chain.Waiting.{Waiting}
 use Rattle.parking_lot_core.specs.declared.chain.Wanted.TheVariants.{Key}
-use Rattle.parking_lot_core.specs.Waits.{queue, waiters_of, any, fits, every, under, often, Apart, woken_of, moved_of, rest_of}
+use Rattle.parking_lot_core.specs.Waits.{queue, waiters_of, any, fits, every, under, often, Apart, woken_of, moved_of}
+use Rattle.parking_lot_core.specs.Waits.{rest_of}
 use Rattle.parking_lot_core.specs.Shared.{HasBoth, OnSomeLot, WasHeld, renamed}
 use Rattle.parking_lot_core.proofs.Apart.{often_append, often_others}
 use Rattle.parking_lot_core.proofs.Queues.{by_test, other_key, queue_append, queue_here, queue_there, queue_under}
 use Rattle.parking_lot_core.proofs.Queues.{queue_under_else}
 use Rattle.parking_lot_core.proofs.Lots.{bound, beyond, lot_of, lot_quiet}
-use Rattle.parking_lot_core.proofs.Requeued.{rest_here, rest_else, moved_are, passed, passed_here, passed_else, new_here}
+use Rattle.parking_lot_core.proofs.Requeued.{rest_here, rest_else, moved_are, passed, passed_here, passed_else}
+use Rattle.parking_lot_core.proofs.Requeued.{new_here}
 use Rattle.parking_lot_core.proofs.Requeued.{new_else, neither, requeues, aborts, answered}
 
 -- the same waiters, by other numbers
 abbrev shifted : ℕ → List Waiting → List Waiting
 shifted s [] = []
-shifted s (x ∷ xs) = record x { waiter = record { thread = s + x.waiter.thread; token = x.waiter.token } } ∷ shifted s xs
+shifted s (x ∷ xs) = record x {
+  waiter = record {
+    thread = s
+        + x.waiter.thread;
+    token = x.waiter.token;
+  };
+} ∷ shifted s xs
 
 queue_shifted : (s : ℕ) (ys : List Waiting) (k : ℕ) → queue (shifted s ys) k ≡ renamed s (queue ys k)
 queue_shifted s [] k = refl
@@ -90,7 +98,8 @@ below_or (suc t) (suc s) = further (below_or t s)
     further (inl h) = inl (omega arith)
     further (inr (u, e)) = inr (u, omega arith)
 
-module _ (from to : ℕ) (apart-keys : (from == to) ≡ false) (xs ys : List Waiting) (apart : Apart xs) (apart-there : Apart ys) where
+module _ (from to : ℕ) (apart-keys : (from == to)
+    ≡ false) (xs ys : List Waiting) (apart : Apart xs) (apart-there : Apart ys) where
   turned : (to == from) ≡ false
   turned = by_test (to == from) ((to == from) ≡ false)
       (λ h. absurd (false≢true (sym apart-keys ∙ eq-eqb from to (sym (eqb-true to from h))))) (λ h. h)
@@ -127,7 +136,8 @@ module _ (from to : ℕ) (apart-keys : (from == to) ≡ false) (xs ys : List Wai
           let a = apart-there u in
           let b = often_others t (fits (Key from)) xs in
           let n = beyond t xs (omega arith) in
-          let c = ap (λ v. often v (shifted s (every (fits (Key to)) ys))) e ∙ often_above u s (every (fits (Key to)) ys) in
+          let c = ap (λ v. often v (shifted s (every (fits (Key to)) ys))) e
+          ∙ often_above u s (every (fits (Key to)) ys) in
           let f = often_others u (fits (Key to)) ys in
           let d = often_append t (every (fits (Key from)) xs) (shifted s (every (fits (Key to)) ys)) in omega arith
 
@@ -139,7 +149,8 @@ module _ (from to : ℕ) (apart-keys : (from == to) ≡ false) (xs ys : List Wai
 
     pub nothing_is_sent : (result : UnparkResult) → is_abort op ≡ true → result ≡ unpark_result {X = Waiter} 0 0 []
         → left ≡ xs → joined ≡ ys
-        → OnSomeLot (λ k. (k == from) || (k == to)) (Does (either_busy from to) (UnparksAndRequeues asks gives from to)) result
+        → OnSomeLot (λ k. (k == from) || (k == to)) (Does (either_busy from to) (UnparksAndRequeues asks gives from
+        to)) result
     nothing_is_sent result stops is l j = (
       before,
       before,
@@ -167,12 +178,14 @@ module _ (from to : ℕ) (apart-keys : (from == to) ≡ false) (xs ys : List Wai
           have_more_threads = any (fits (Key from)) left;
           be_fair = false;
         } → gives op result token
-        → OnSomeLot (λ k. (k == from) || (k == to)) (Does (either_busy from to) (UnparksAndRequeues asks gives from to)) result
+        → OnSomeLot (λ k. (k == from) || (k == to)) (Does (either_busy from to) (UnparksAndRequeues asks gives from
+        to)) result
     some_are_sent woken moved result token goes r w m j is given =
         let old = before in
         let new = requeued old op from to token in
         let more = moved_by op (queue xs from) in
-        let come : queue (under to moved) to ≡ more = queue_under to moved ∙ (ap waiters_of m ∙ moved_are from xs op) in (
+        let come : queue (under to moved) to ≡ more = queue_under to moved ∙ (ap waiters_of m
+        ∙ moved_are from xs op) in (
           old,
           new,
           lot_quiet (λ t. false) 0 zs apart_zs,

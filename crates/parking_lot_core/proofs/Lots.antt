@@ -1,6 +1,8 @@
 -- Sound lots, made of lists of waiters.
-use Rattle.std.proofs.Common.{◌≡◌, ◌∙◌, ◌∷◌, ◌++◌, ◌+◌, ◌<◌, ◌≤◌, ◌==◌, ◌⊎◌, [], List, refl, sym, ap, subst, Bool, true, false}
-use Rattle.std.proofs.Common.{cond, ℕ, zero, suc, Option, Some, None, arith, eqb-true, eq-eqb, count_by, slice_get, slice_set}
+use Rattle.std.proofs.Common.{◌≡◌, ◌∙◌, ◌∷◌, ◌++◌, ◌+◌, ◌<◌, ◌≤◌, ◌==◌, ◌⊎◌, [], List, refl, sym, ap, subst, Bool, true}
+use Rattle.std.proofs.Common.{false}
+use Rattle.std.proofs.Common.{cond, ℕ, zero, suc, Option, Some, None, arith, eqb-true, eq-eqb, count_by, slice_get}
+use Rattle.std.proofs.Common.{slice_set}
 use Rattle.std.proofs.Common.{not}
 use mathlib.Core.Logic.{inl, inr}
 use Rattle.std.specs.Option.{option_map_or}
@@ -31,14 +33,16 @@ seat_at f zero t h = absurd (omega arith)
 seat_at f (suc n) zero h = refl
 seat_at f (suc n) (suc t) h = seat_at (λ u. f (suc u)) n t (omega arith)
 
-seat_or : (f : ℕ → Place) (n t : ℕ) → (place_at (seats f n) t ≡ Some (f t)) ⊎ ((place_at (seats f n) t ≡ None) × (n ≤ t))
+seat_or : (f : ℕ → Place) (n t : ℕ)
+    → (place_at (seats f n) t ≡ Some (f t)) ⊎ ((place_at (seats f n) t ≡ None) × (n ≤ t))
 seat_or f zero t = inr (refl, omega arith)
 seat_or f (suc n) zero = inl refl
 seat_or f (suc n) (suc t) = further (seat_or (λ u. f (suc u)) n t)
   where
     further : (place_at (seats (λ u. f (suc u)) n) t ≡ Some (f (suc t)))
         ⊎ ((place_at (seats (λ u. f (suc u)) n) t ≡ None) × (n ≤ t))
-        → (place_at (seats f (suc n)) (suc t) ≡ Some (f (suc t))) ⊎ ((place_at (seats f (suc n)) (suc t) ≡ None) × (suc n ≤ suc t))
+        → (place_at (seats f (suc n)) (suc t) ≡ Some (f (suc t))) ⊎ ((place_at (seats f (suc n)) (suc t)
+        ≡ None) × (suc n ≤ suc t))
     further (inl e) = inl e
     further (inr (e, h)) = inr (e, omega arith)
 
@@ -79,7 +83,8 @@ module _ (f : ℕ → Place) (queues : ℕ → List Waiter) (n : ℕ)
   held_there t key h = both (seat_or f n t)
     where
       both : (place_at (seats f n) t ≡ Some (f t)) ⊎ ((place_at (seats f n) t ≡ None) × (n ≤ t)) → IsOpen m key
-      both (inl e) = absurd (false≢true (sym (free t key) ∙ (ap (λ o. option_map_or (is_held key) o false) (sym e) ∙ h)))
+      both (inl e) = absurd (false≢true (sym (free t key)
+          ∙ (ap (λ o. option_map_or (is_held key) o false) (sym e) ∙ h)))
       both (inr (e, l)) = absurd (false≢true (ap (λ o. option_map_or (is_held key) o false) (sym e) ∙ h))
 
   pub quiet : IsQuiet (lot_with f queues n)
@@ -106,7 +111,12 @@ module _ (f : ℕ → Place) (queues : ℕ → List Waiter) (n : ℕ)
 abbrev pub standing : (ℕ → Bool) → List chain.Waiting → ℕ → Place
 standing late [] t = Running
 standing late (w ∷ ws) t =
-    cond (w.waiter.thread == t) (Waiting w.key (record { mark = 0; timed = w.timed; late = late t })) (standing late ws t)
+    cond (w.waiter.thread == t) (Waiting w.key (record {
+      mark = 0;
+      timed = w.timed;
+      late =
+          late t;
+    })) (standing late ws t)
 
 -- one more in front
 count_cons : (t : ℕ) (w : Waiter) (ws : List Waiter)
@@ -121,9 +131,11 @@ unlisted t key (x ∷ xs) e =
     by_test (x.waiter.thread == t) (count_by (is_thread t) (queue (x ∷ xs) key) ≡ 0)
     (λ h. absurd (let n : cond {A = ℕ} (x.waiter.thread == t) 1 0 ≡ 1 = ap (λ b. cond {A = ℕ} b 1 0) h in omega arith))
     (λ h.
-    let z : often t xs ≡ 0 = (let n : cond {A = ℕ} (x.waiter.thread == t) 1 0 ≡ 0 = ap (λ b. cond {A = ℕ} b 1 0) h in omega arith) in
+    let z : often t xs ≡ 0 = (let n : cond {A = ℕ} (x.waiter.thread == t) 1 0
+    ≡ 0 = ap (λ b. cond {A = ℕ} b 1 0) h in omega arith) in
     let c : count_by (is_thread t) (x.waiter ∷ queue xs key) ≡ 0 =
-    (let m = count_cons t x.waiter (queue xs key) in let n : cond {A = ℕ} (x.waiter.thread == t) 1 0 ≡ 0 = ap (λ b. cond {A = ℕ} b 1 0) h in let y = i z in omega arith) in
+    (let m = count_cons t x.waiter (queue xs key) in let n : cond {A = ℕ} (x.waiter.thread == t) 1 0
+    ≡ 0 = ap (λ b. cond {A = ℕ} b 1 0) h in let y = i z in omega arith) in
     either (x.key == key) c (i z))
   where
     either : (b : Bool) → count_by (is_thread t) (x.waiter ∷ queue xs key) ≡ 0
@@ -163,7 +175,8 @@ module _ (late : ℕ → Bool) (t key : ℕ) where
       both false c d = d
 
       same : (b : Bool) → count_by (is_thread t) (x.waiter ∷ queue xs key) ≡ count_by (is_thread t) (queue xs key)
-          → count_by (is_thread t) (cond b (x.waiter ∷ queue xs key) (queue xs key)) ≡ count_by (is_thread t) (queue xs key)
+          → count_by (is_thread t) (cond b (x.waiter ∷ queue xs key) (queue xs key))
+          ≡ count_by (is_thread t) (queue xs key)
       same true c = c
       same false c = refl
 
@@ -172,7 +185,12 @@ never_held late key t [] = refl
 never_held late key t (x ∷ xs) = both (never_held late key t xs) (x.waiter.thread == t)
   where
     both : is_held key (standing late xs t) ≡ false → (b : Bool)
-        → is_held key (cond b (Waiting x.key (record { mark = 0; timed = x.timed; late = late t })) (standing late xs t)) ≡ false
+        → is_held key (cond b (Waiting x.key (record {
+          mark = 0;
+          timed = x.timed;
+          late =
+              late t;
+        })) (standing late xs t)) ≡ false
     both i true = refl
     both i false = i
 
@@ -186,7 +204,8 @@ beyond t [] h = refl
 beyond t (x ∷ xs) h =
     by_test (x.waiter.thread == t) (often t (x ∷ xs) ≡ 0)
     (λ e. absurd (let same = eqb-true x.waiter.thread t e in omega arith))
-    (λ e. let zero : cond {A = ℕ} (x.waiter.thread == t) 1 0 ≡ 0 = ap (λ b. cond {A = ℕ} b 1 0) e in let i = beyond t xs (omega arith) in omega arith)
+    (λ e. let zero : cond {A = ℕ} (x.waiter.thread == t) 1 0
+    ≡ 0 = ap (λ b. cond {A = ℕ} b 1 0) e in let i = beyond t xs (omega arith) in omega arith)
 
 -- it has so many places more
 abbrev pub lot_of : (ℕ → Bool) → ℕ → List chain.Waiting → Machine

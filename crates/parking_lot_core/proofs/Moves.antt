@@ -1,6 +1,8 @@
 -- Calls under a bucket's lock are moves of a sound lot.
-use Rattle.std.proofs.Common.{◌≡◌, ◌∙◌, ◌∷◌, ◌++◌, ◌+◌, ◌<◌, ◌==◌, [], List, refl, sym, ap, subst, Bool, true, false, cond, not}
-use Rattle.std.proofs.Common.{ℕ, suc, Option, Some, None, arith, eqb-true, eq-eqb, take, drop, length, remove, Result, Ok, slice_set}
+use Rattle.std.proofs.Common.{◌≡◌, ◌∙◌, ◌∷◌, ◌++◌, ◌+◌, ◌<◌, ◌==◌, [], List, refl, sym, ap, subst, Bool, true, false}
+use Rattle.std.proofs.Common.{cond, not}
+use Rattle.std.proofs.Common.{ℕ, suc, Option, Some, None, arith, eqb-true, eq-eqb, take, drop, length, remove, Result}
+use Rattle.std.proofs.Common.{Ok, slice_set}
 use Rattle.std.specs.List.{position_or_len}
 use Rattle.std.proofs.lemmas.Bool.{false≢true}
 use Rattle.std.proofs.lemmas.List.{append-nil}
@@ -17,19 +19,24 @@ use Rattle.parking_lot_core_model.specs.declared.place.Place.TheVariants.{Runnin
 use Rattle.parking_lot_core_model.specs.declared.place.Sleep.{Sleep}
 use Rattle.parking_lot_core_model.specs.declared.place.Waiter.{Waiter}
 use Rattle.parking_lot_core_model.specs.Lists.{updated, without_first}
-use Rattle.parking_lot_core_model.specs.Machine.{Machine, Unless, Does, busy, enter_fault, resume_fault, resume_fault_at}
-use Rattle.parking_lot_core_model.specs.Machine.{is_thread, joined, unparked, given_up, tokens_of, runs, is_in, token_of}
-use Rattle.parking_lot_core_model.specs.Operations.{Parks, Resumes, ResumesFrom, UnparksOne, UnparksAll, UnparksByFilter}
+use Rattle.parking_lot_core_model.specs.Machine.{Machine, Unless, Does, busy, enter_fault, resume_fault}
+use Rattle.parking_lot_core_model.specs.Machine.{resume_fault_at}
+use Rattle.parking_lot_core_model.specs.Machine.{is_thread, joined, unparked, given_up, tokens_of, runs, is_in}
+use Rattle.parking_lot_core_model.specs.Machine.{token_of}
+use Rattle.parking_lot_core_model.specs.Operations.{Parks, Resumes, ResumesFrom, UnparksOne, UnparksAll}
+use Rattle.parking_lot_core_model.specs.Operations.{UnparksByFilter}
 use Rattle.parking_lot_core_model.specs.Places.{place_at, status_of}
 use Rattle.parking_lot_core_model.specs.declared.place.ThreadStatus.TheVariants.{InSection}
 use Rattle.std.specs.Option.{option_map}
 use Rattle.parking_lot_core_model.specs.Results.{Answers, is_stop, is_left, unpark_result, fairly, chosen_by, passed_by}
 use Rattle.parking_lot_core.specs.declared.chain.Waiting as chain
 use Rattle.parking_lot_core.specs.declared.chain.Wanted.TheVariants.{Key, Thread}
-use Rattle.parking_lot_core.specs.Waits.{queue, waiters_of, any, fits, onto, without, found, every, others, picked, kept}
+use Rattle.parking_lot_core.specs.Waits.{queue, waiters_of, any, fits, onto, without, found, every, others, picked}
+use Rattle.parking_lot_core.specs.Waits.{kept}
 use Rattle.parking_lot_core.specs.Waits.{Apart}
 use Rattle.parking_lot_core.specs.Shared.{IsQuiet, HasLists, Spares, OnSomeLot, WasHeld, WasTold, Counts}
-use Rattle.parking_lot_core.proofs.Queues.{by_test, queue_append, queue_here, queue_there, first_taken, first_left, first_else}
+use Rattle.parking_lot_core.proofs.Queues.{by_test, queue_append, queue_here, queue_there, first_taken, first_left}
+use Rattle.parking_lot_core.proofs.Queues.{first_else}
 use Rattle.parking_lot_core.proofs.Queues.{all_taken_of, none_left, all_else, filter_taken, filter_left, filter_else}
 use Rattle.parking_lot_core.proofs.Queues.{any_waits, count_of, count_onto}
 use Rattle.parking_lot_core.proofs.Lots.{standing, bound, lot_of, lot_quiet, runs_there, seat_at, told_place, told_lot}
@@ -41,7 +48,8 @@ Held xs left = (old new : Machine) → HasLists old xs → HasLists new left →
 
 -- lists of which that of a key has changed
 pub lists_updated : (xs left : List chain.Waiting) (key : ℕ) (rest : List Waiter) → queue left key ≡ rest
-    → ((k : ℕ) → (k == key) ≡ false → queue left k ≡ queue xs k) → (k : ℕ) → updated (queue xs) key rest k ≡ queue left k
+    → ((k : ℕ) → (k == key) ≡ false → queue left k ≡ queue xs k) → (k : ℕ)
+    → updated (queue xs) key rest k ≡ queue left k
 lists_updated xs left key rest here there k =
     by_test (k == key) (updated (queue xs) key rest k ≡ queue left k)
     (λ e. ap (λ b. cond b rest (queue xs k)) e
@@ -50,12 +58,19 @@ lists_updated xs left key rest here there k =
 
 -- what is answered
 pub result_is : (result : UnparkResult) (u r n m : ℕ) (h fair : Bool) (rest : List Waiter)
-    → result ≡ record { unparked_threads = u; requeued_threads = r; have_more_threads = h; be_fair = fair } → u ≡ n → r ≡ m
+    → result ≡ record { unparked_threads = u; requeued_threads = r; have_more_threads = h; be_fair = fair }
+    → u ≡ n → r ≡ m
     → h ≡ is_left rest → result ≡ fairly fair (unpark_result n m rest)
 result_is result u r n m h fair rest is a b c =
     is ∙ (ap (λ (x : ℕ). record { unparked_threads = x; requeued_threads = r; have_more_threads = h; be_fair = fair }) a
     ∙ (ap (λ (x : ℕ). record { unparked_threads = n; requeued_threads = x; have_more_threads = h; be_fair = fair }) b
-    ∙ ap (λ (x : Bool). record { unparked_threads = n; requeued_threads = m; have_more_threads = x; be_fair = fair }) c))
+    ∙ ap (λ (x : Bool). record {
+      unparked_threads = n;
+      requeued_threads = m;
+      have_more_threads = x;
+      be_fair =
+          fair;
+    }) c))
 
 -- AN UNPARK
 
@@ -96,7 +111,8 @@ module _ (xs left : List chain.Waiting) (apart : Apart xs) (held : Held xs left)
       ap length (t ∙ append-nil (found (fits (Key key)) xs)) ∙ (count_of (found (fits (Key key)) xs)
       ∙ ap length (first_taken key xs)) in
       let more : any (fits (Key key)) left ≡ is_left (drop 1 q) = any_waits key left ∙ ap is_left at in
-      let answer = result_is result (length taken) 0 (length (take 1 q)) 0 (any (fits (Key key)) left) fair (drop 1 q) is
+      let answer = result_is result (length taken) 0 (length (take 1 q)) 0 (any (fits (Key key)) left) fair (drop 1
+      q) is
       count refl more in (
         before xs left apart held key (take 1 q) (drop 1 q) at else,
         after xs left apart held key (take 1 q) (drop 1 q) at else token,
@@ -136,7 +152,8 @@ module _ (xs left : List chain.Waiting) (apart : Apart xs) (held : Held xs left)
       }) where
     -- what a filter did with the list
     abbrev pub Sifts : Type 0
-    Sifts = (answers : List FilterOp) × (last : F) × Answers shows is_stop filter (tokens_of (queue xs key)) answers last
+    Sifts = (answers : List FilterOp) × (last : F)
+        × Answers shows is_stop filter (tokens_of (queue xs key)) answers last
         × (left ≡ kept key answers xs) × (taken ≡ onto (picked key answers xs) [])
 
     module _ (sifts : Sifts) where
@@ -200,7 +217,8 @@ module _ (xs left : List chain.Waiting) (apart : Apart xs) (held : Held xs left)
 
   may_enter : enter_fault parking w.waiter.thread w.key ≡ None
   may_enter = ap (λ (o : Option Place). cond (runs
-      (option_map (λ (place : Place). cond (is_in parking w.waiter.thread) InSection (status_of (token_of parking) place))
+      (option_map (λ (place : Place). cond (is_in parking w.waiter.thread) InSection (status_of (token_of parking)
+      place))
       o)) (busy w.key parking) (Some WrongStatus)) runs_here
 
   abbrev Park : Result (Option ParkResult) LotFault → Machine → Type 0
@@ -234,7 +252,8 @@ module _ (xs left : List chain.Waiting) (apart : Apart xs) (held : Held xs left)
         parking,
         new,
         lot_quiet (λ t. false) (w.waiter.thread + 1) xs apart,
-        subst (λ o. Unless {T = Option ParkResult} o (Ok None) parking new (Park (Ok None) new)) (sym may_enter) (true, valid, refl, refl),
+        subst (λ o. Unless {T = Option ParkResult} o (Ok None) parking new (Park (Ok None) new)) (sym may_enter)
+            (true, valid, refl, refl),
         (λ k e. ap (λ b. cond b rest (queue xs k)) e),
         held parking new (λ k. refl) (lists_updated xs left w.key rest at else),
       )

@@ -1,5 +1,6 @@
 -- What those that are taken and left are to each key.
-use Rattle.std.proofs.Common.{◌≡◌, ◌∙◌, ◌∷◌, ◌++◌, ◌+◌, ◌==◌, [], List, refl, sym, ap, subst, Bool, true, false, cond, ℕ}
+use Rattle.std.proofs.Common.{◌≡◌, ◌∙◌, ◌∷◌, ◌++◌, ◌+◌, ◌==◌, [], List, refl, sym, ap, subst, Bool, true, false, cond}
+use Rattle.std.proofs.Common.{ℕ}
 use Rattle.std.proofs.Common.{take, drop, length, suc, eqb-true, eq-eqb, arith}
 use Rattle.std.proofs.lemmas.Bool.{false≢true}
 use Rattle.std.proofs.lemmas.List.{append-nil}
@@ -66,7 +67,8 @@ module _ (key : ℕ) where
   first_taken (x ∷ xs) = both (first_taken xs) (x.key == key)
     where
       both : waiters_of (found (fits (Key key)) xs) ≡ take 1 (queue xs key) → (b : Bool)
-          → waiters_of (cond b (x ∷ []) (found (fits (Key key)) xs)) ≡ take 1 (cond b (x.waiter ∷ queue xs key) (queue xs key))
+          → waiters_of (cond b (x ∷ []) (found (fits (Key key)) xs))
+          ≡ take 1 (cond b (x.waiter ∷ queue xs key) (queue xs key))
       both i true = refl
       both i false = i
 
@@ -86,7 +88,8 @@ module _ (key : ℕ) where
   all_taken_of (x ∷ xs) = both (all_taken_of xs) (x.key == key)
     where
       both : waiters_of (every (fits (Key key)) xs) ≡ queue xs key → (b : Bool)
-          → waiters_of (cond b (x ∷ every (fits (Key key)) xs) (every (fits (Key key)) xs)) ≡ cond b (x.waiter ∷ queue xs key) (queue xs key)
+          → waiters_of (cond b (x ∷ every (fits (Key key)) xs) (every (fits (Key key)) xs))
+          ≡ cond b (x.waiter ∷ queue xs key) (queue xs key)
       both i true = ap (λ ws. x.waiter ∷ ws) i
       both i false = i
 
@@ -107,11 +110,14 @@ module _ (key : ℕ) where
       none : (answers : List FilterOp) → chosen_by {X = Waiter} answers [] ≡ []
       none [] = refl
       none (a ∷ answers) = refl
-  filter_taken answers (x ∷ xs) = both answers (filter_taken (behind answers) xs) (filter_taken answers xs) (x.key == key)
+  filter_taken answers (x ∷ xs) = both answers (filter_taken (behind answers) xs) (filter_taken answers xs) (x.key
+      == key)
     where
-      both : (answers : List FilterOp) → waiters_of (picked key (behind answers) xs) ≡ chosen_by (behind answers) (queue xs key)
+      both : (answers : List FilterOp)
+          → waiters_of (picked key (behind answers) xs) ≡ chosen_by (behind answers) (queue xs key)
           → waiters_of (picked key answers xs) ≡ chosen_by answers (queue xs key) → (b : Bool)
-          → waiters_of (cond b (cond (takes answers) (x ∷ picked key (behind answers) xs) (picked key (behind answers) xs))
+          → waiters_of (cond b (cond (takes answers) (x ∷ picked key (behind answers) xs) (picked key (behind
+          answers) xs))
           (picked key answers xs)) ≡ chosen_by answers (cond b (x.waiter ∷ queue xs key) (queue xs key))
       both answers i j false = j
       both [] i j true = i
@@ -129,7 +135,8 @@ module _ (key : ℕ) where
   filter_left answers (x ∷ xs) =
       both answers (filter_left (behind answers) xs) (filter_left answers xs)
     where
-      shown : (answers : List FilterOp) → queue (kept key (behind answers) xs) key ≡ passed_by (behind answers) (queue xs key)
+      shown : (answers : List FilterOp)
+          → queue (kept key (behind answers) xs) key ≡ passed_by (behind answers) (queue xs key)
           → (x.key == key) ≡ true
           → queue (cond (takes answers) (kept key (behind answers) xs) (x ∷ kept key (behind answers) xs)) key
           ≡ passed_by answers (x.waiter ∷ queue xs key)
@@ -138,7 +145,8 @@ module _ (key : ℕ) where
       shown (Skip ∷ answers) i e = queue_here x (kept key answers xs) key e ∙ ap (λ ws. x.waiter ∷ ws) i
       shown (Stop ∷ answers) i e = queue_here x (kept key [] xs) key e ∙ ap (λ ws. x.waiter ∷ ws) i
 
-      both : (answers : List FilterOp) → queue (kept key (behind answers) xs) key ≡ passed_by (behind answers) (queue xs key)
+      both : (answers : List FilterOp)
+          → queue (kept key (behind answers) xs) key ≡ passed_by (behind answers) (queue xs key)
           → queue (kept key answers xs) key ≡ passed_by answers (queue xs key)
           → queue (kept key answers (x ∷ xs)) key ≡ passed_by answers (queue (x ∷ xs) key)
       both answers i j =

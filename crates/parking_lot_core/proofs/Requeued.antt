@@ -19,7 +19,8 @@ use Rattle.parking_lot_core.specs.Waits.{queue, waiters_of, any, fits, without, 
 use Rattle.parking_lot_core.specs.Waits.{woken_of, moved_of, rest_of}
 use Rattle.parking_lot_core.specs.Shared.{IsQuiet, HasLists, HasBoth, Spares, OnSomeLot, WasHeld, renamed}
 use Rattle.parking_lot_core.proofs.Apart.{absent, often_append, often_others, often_without, often_under}
-use Rattle.parking_lot_core.proofs.Queues.{by_test, queue_append, queue_here, queue_there, queue_under, queue_under_else}
+use Rattle.parking_lot_core.proofs.Queues.{by_test, queue_append, queue_here, queue_there, queue_under}
+use Rattle.parking_lot_core.proofs.Queues.{queue_under_else}
 use Rattle.parking_lot_core.proofs.Queues.{first_taken, first_left, first_else, all_taken_of, none_left, all_else}
 use Rattle.parking_lot_core.proofs.Queues.{any_waits, count_of}
 use Rattle.parking_lot_core.proofs.Lots.{bound, beyond, lot_of, lot_quiet}
@@ -81,7 +82,8 @@ apart_moved op key xs left moved apart l m t =
     let e = ap (often t) m in omega arith
 
 -- those that move are
-pub apart_alone : (op : RequeueOp) (key : ℕ) (xs moved : List Waiting) → Apart xs → moved ≡ moved_of op key xs → Apart moved
+pub apart_alone : (op : RequeueOp) (key : ℕ) (xs moved : List Waiting) → Apart xs → moved ≡ moved_of op key xs
+    → Apart moved
 apart_alone op key xs moved apart m t =
     let a = apart t in
     let b = often_rest key xs op t in
@@ -120,7 +122,8 @@ module _ (old : Machine) (op : RequeueOp) (from to : ℕ) (token : UnparkToken) 
 
   pub passed_here : passed from ≡ left_by op (old.queues from)
   passed_here = ap (λ b. cond b (left_by op (old.queues from))
-      (updated old.queues from (drop (length (woken_by op (old.queues from))) (old.queues from)) from)) (eq-eqb from from refl)
+      (updated old.queues from (drop (length (woken_by op (old.queues from))) (old.queues from)) from)) (eq-eqb
+      from from refl)
 
   pub passed_else : (k : ℕ) → (k == from) ≡ false → passed k ≡ old.queues k
   passed_else k e = ap (λ b. cond b (left_by op (old.queues from))
@@ -152,7 +155,8 @@ module _ (asks : RequeueOp → Type 0) (gives : RequeueOp → UnparkResult → U
           (left_by op (old.queues from)) → gives op result token
           → Requeues (gives op) op old from to (Ok result) (requeued old op from to token)
       by Abort goes is given = absurd (false≢true (sym goes))
-      by UnparkOneRequeueRest goes is given = (token, subst (λ r. gives UnparkOneRequeueRest r token) is given, ap Ok is, refl)
+      by UnparkOneRequeueRest goes is given =
+          (token, subst (λ r. gives UnparkOneRequeueRest r token) is given, ap Ok is, refl)
       by RequeueAll goes is given = (token, subst (λ r. gives RequeueAll r token) is given, ap Ok is, refl)
       by UnparkOne goes is given = (token, subst (λ r. gives UnparkOne r token) is given, ap Ok is, refl)
       by RequeueOne goes is given = (token, subst (λ r. gives RequeueOne r token) is given, ap Ok is, refl)
@@ -169,7 +173,8 @@ module _ (asks : RequeueOp → Type 0) (gives : RequeueOp → UnparkResult → U
       by RequeueOne e = absurd (false≢true e)
 
   -- what is answered, by what was taken and left
-  pub answered : (old : Machine) (xs rest woken moved : List Waiting) (result : UnparkResult) → old.queues from ≡ queue xs from
+  pub answered : (old : Machine) (xs rest woken moved : List Waiting) (result : UnparkResult)
+      → old.queues from ≡ queue xs from
       → rest ≡ rest_of op from xs → woken ≡ woken_of op from xs → moved ≡ moved_of op from xs
       → result ≡ record {
         unparked_threads = length woken;
@@ -180,7 +185,8 @@ module _ (asks : RequeueOp → Type 0) (gives : RequeueOp → UnparkResult → U
       → result ≡ unpark_result (length (woken_by op (old.queues from))) (length (moved_by op (old.queues from)))
       (left_by op (old.queues from))
   answered old xs rest woken moved result at l w m is =
-      subst (λ (ws : List Waiter). result ≡ unpark_result (length (woken_by op ws)) (length (moved_by op ws)) (left_by op ws))
+      subst (λ (ws : List Waiter). result
+      ≡ unpark_result (length (woken_by op ws)) (length (moved_by op ws)) (left_by op ws))
       (sym at)
       (result_is result (length woken) (length moved) (length (woken_by op (queue xs from)))
       (length (moved_by op (queue xs from))) (any (fits (Key from)) rest) false (left_by op (queue xs from)) is
@@ -196,7 +202,8 @@ module _ (asks : RequeueOp → Type 0) (gives : RequeueOp → UnparkResult → U
 
     pub nothing_is_requeued : (result : UnparkResult) → is_abort op ≡ true → result ≡ unpark_result {X = Waiter} 0 0 []
         → left ≡ xs
-        → OnSomeLot (λ k. (k == from) || (k == to)) (Does (either_busy from to) (UnparksAndRequeues asks gives from to)) result
+        → OnSomeLot (λ k. (k == from) || (k == to)) (Does (either_busy from to) (UnparksAndRequeues asks gives from
+        to)) result
     nothing_is_requeued result stops is l = (
       before,
       before,
@@ -215,7 +222,8 @@ module _ (asks : RequeueOp → Type 0) (gives : RequeueOp → UnparkResult → U
           have_more_threads = any (fits (Key from)) rest;
           be_fair = false;
         } → gives op result token
-        → OnSomeLot (λ k. (k == from) || (k == to)) (Does (either_busy from to) (UnparksAndRequeues asks gives from to)) result
+        → OnSomeLot (λ k. (k == from) || (k == to)) (Does (either_busy from to) (UnparksAndRequeues asks gives from
+        to)) result
     some_are_requeued rest woken moved result token goes r w m l is given =
         let old = before in
         let new = requeued old op from to token in
@@ -228,7 +236,8 @@ module _ (asks : RequeueOp → Type 0) (gives : RequeueOp → UnparkResult → U
         queue_under to moved ∙ (ap waiters_of m ∙ moved_are from xs op) in
         let here : new.queues to ≡ queue left to =
         new_here old op from to token ∙ (ap (λ ws. ws ++ moved_by op (queue xs from)) (lists to)
-        ∙ sym (ap (λ ys. queue ys to) l ∙ (queue_append rest (under to moved) to ∙ ap (λ ws. queue rest to ++ ws) come))) in
+        ∙ sym (ap (λ ys. queue ys to) l ∙ (queue_append rest (under to moved) to
+        ∙ ap (λ ws. queue rest to ++ ws) come))) in
         let else : (k : ℕ) → (k == to) ≡ false → new.queues k ≡ queue left k =
         λ k e. new_else old op from to token k e ∙ (lists k
         ∙ sym (ap (λ ys. queue ys k) l ∙ (queue_append rest (under to moved) k

@@ -31,7 +31,8 @@ picked_none key (x ∷ xs) = both (picked_none key xs) (x.key == key)
 module _ {F : Type 0} (gives : F → ParkToken → FilterOp → F → Type 0) (f0 : F) (key : ℕ) (xs0 to0 : List Waiting) where
   -- what it comes to
   abbrev pub Sifted : List Waiting → List Waiting → Type 0
-  Sifted left to = (answers : List FilterOp) × (last : F) × Answers gives is_stop f0 (tokens_of (queue xs0 key)) answers last
+  Sifted left to = (answers : List FilterOp) × (last : F)
+      × Answers gives is_stop f0 (tokens_of (queue xs0 key)) answers last
       × (left ≡ kept key answers xs0) × (to ≡ onto (picked key answers xs0) to0)
 
   -- so far it passed and took these: whatever is answered for the others
@@ -44,29 +45,39 @@ module _ {F : Type 0} (gives : F → ParkToken → FilterOp → F → Type 0) (f
   sifting answers last h = (answers, last, h, refl, refl)
 
   -- the next is of another key
-  sift_past : (f : F) (x : Waiting) (xs passed to : List Waiting) → (x.key == key) ≡ false → Sifting f (x ∷ xs) passed to
+  sift_past : (f : F) (x : Waiting) (xs passed to : List Waiting) → (x.key == key) ≡ false
+      → Sifting f (x ∷ xs) passed to
       → Sifting f xs (x ∷ passed) to
   sift_past f x xs passed to e h answers last h' =
-      let Q : Bool → Type 0 = λ b. Answers gives is_stop f (tokens_of (cond b (x.waiter ∷ queue xs key) (queue xs key))) answers last in
+      let Q : Bool → Type 0 = λ b. Answers gives is_stop f (tokens_of (cond b (x.waiter ∷ queue xs key) (queue xs
+      key))) answers last in
       let r = h answers last (subst Q (sym e) h') in
       let L : Bool → Type 0 = λ b. Sifted (onto passed
-      (cond b (cond (takes answers) (kept key (behind answers) xs) (x ∷ kept key (behind answers) xs)) (x ∷ kept key answers xs)))
-      (onto (cond b (cond (takes answers) (x ∷ picked key (behind answers) xs) (picked key (behind answers) xs)) (picked key answers xs)) to) in
+      (cond b (cond (takes answers) (kept key (behind answers) xs) (x ∷ kept key (behind answers) xs)) (x ∷ kept
+      key answers xs)))
+      (onto (cond b (cond (takes answers) (x ∷ picked key (behind answers) xs) (picked key (behind answers) xs))
+      (picked key answers xs)) to) in
       subst L e r
 
   sift_shown : (f f' : F) (answer : FilterOp) (x : Waiting) (xs passed to : List Waiting) → (x.key == key) ≡ true
       → is_stop answer ≡ false → gives f x.waiter.token answer f' → Sifting f (x ∷ xs) passed to
       → (answers : List FilterOp) (last : F) → Answers gives is_stop f' (tokens_of (queue xs key)) answers last
-      → Sifted (onto passed (cond (takes (answer ∷ answers)) (kept key (behind (answer ∷ answers)) xs) (x ∷ kept key (behind (answer ∷ answers)) xs)))
-      (onto (cond (takes (answer ∷ answers)) (x ∷ picked key (behind (answer ∷ answers)) xs) (picked key (behind (answer ∷ answers)) xs)) to)
+      → Sifted (onto passed (cond (takes (answer ∷ answers)) (kept key (behind (answer ∷ answers)) xs) (x ∷ kept
+      key (behind (answer ∷ answers)) xs)))
+      (onto (cond (takes (answer ∷ answers)) (x ∷ picked key (behind (answer ∷ answers)) xs) (picked key (behind
+      (answer ∷ answers)) xs)) to)
   sift_shown f f' Unpark x xs passed to e s gave h answers last h' =
-      let Q : Bool → Type 0 = λ b. Answers gives is_stop f (tokens_of (cond b (x.waiter ∷ queue xs key) (queue xs key))) (Unpark ∷ answers) last in
-      let L : Bool → Type 0 = λ b. Sifted (onto passed (cond b (kept key answers xs) (x ∷ kept key (Unpark ∷ answers) xs)))
+      let Q : Bool → Type 0 = λ b. Answers gives is_stop f (tokens_of (cond b (x.waiter ∷ queue xs key) (queue xs
+      key))) (Unpark ∷ answers) last in
+      let L : Bool → Type 0 = λ b. Sifted (onto passed (cond b (kept key answers xs) (x ∷ kept key (Unpark ∷
+      answers) xs)))
       (onto (cond b (x ∷ picked key answers xs) (picked key (Unpark ∷ answers) xs)) to) in
       subst L e (h (Unpark ∷ answers) last (subst Q (sym e) (f', gave, h')))
   sift_shown f f' Skip x xs passed to e s gave h answers last h' =
-      let Q : Bool → Type 0 = λ b. Answers gives is_stop f (tokens_of (cond b (x.waiter ∷ queue xs key) (queue xs key))) (Skip ∷ answers) last in
-      let L : Bool → Type 0 = λ b. Sifted (onto passed (cond b (x ∷ kept key answers xs) (x ∷ kept key (Skip ∷ answers) xs)))
+      let Q : Bool → Type 0 = λ b. Answers gives is_stop f (tokens_of (cond b (x.waiter ∷ queue xs key) (queue xs
+      key))) (Skip ∷ answers) last in
+      let L : Bool → Type 0 = λ b. Sifted (onto passed (cond b (x ∷ kept key answers xs) (x ∷ kept key (Skip ∷
+      answers) xs)))
       (onto (cond b (picked key answers xs) (picked key (Skip ∷ answers) xs)) to) in
       subst L e (h (Skip ∷ answers) last (subst Q (sym e) (f', gave, h')))
   sift_shown f f' Stop x xs passed to e s gave h answers last h' = absurd (false≢true (sym s))
@@ -75,7 +86,8 @@ module _ {F : Type 0} (gives : F → ParkToken → FilterOp → F → Type 0) (f
   sift_stop : (f f' : F) (x : Waiting) (xs passed to : List Waiting) → (x.key == key) ≡ true
       → gives f x.waiter.token Stop f' → Sifting f (x ∷ xs) passed to → Sifted (onto passed (x ∷ xs)) to
   sift_stop f f' x xs passed to e gave h =
-      let Q : Bool → Type 0 = λ b. Answers gives is_stop f (tokens_of (cond b (x.waiter ∷ queue xs key) (queue xs key))) (Stop ∷ []) f' in
+      let Q : Bool → Type 0 = λ b. Answers gives is_stop f (tokens_of (cond b (x.waiter ∷ queue xs key) (queue xs
+      key))) (Stop ∷ []) f' in
       let L : Bool → Type 0 = λ b. Sifted (onto passed (cond b (x ∷ kept key [] xs) (x ∷ kept key (Stop ∷ []) xs)))
       (onto (cond b (picked key [] xs) (picked key (Stop ∷ []) xs)) to) in
       let r = subst L e (h (Stop ∷ []) f' (subst Q (sym e) (f', gave, (refl, refl)))) in

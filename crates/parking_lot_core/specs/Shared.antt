@@ -19,8 +19,8 @@ use Rattle.parking_lot_core_model.specs.Sound.{Sound}
 use Rattle.parking_lot_core.specs.declared.chain.Waiting.{Waiting}
 use Rattle.parking_lot_core.specs.Waits.{queue}
 
--- That a lock was held, from when the first was found under it until the second was left. Nothing opens it but the proofs
--- of the functions that give a lock back.
+-- That a lock was held, from when the first was found under it until the second was left. Nothing opens it but the
+-- proofs of the functions that give a lock back.
 unfoldable pub WasHeld : Machine → Machine → Type 0
 WasHeld old new = Unit {0}
 
@@ -41,8 +41,8 @@ abbrev pub renamed : ℕ → List Waiter → List Waiter
 renamed shift [] = []
 renamed shift (w ∷ ws) = record w { thread = shift + w.thread } ∷ renamed shift ws
 
--- Of two buckets, found and left so: the waiters of the first key are those of the first. To those of the second key, who
--- bear other numbers in the lot, some have come behind. In neither bucket has another list changed.
+-- Of two buckets, found and left so: the waiters of the first key are those of the first. To those of the second key,
+-- who bear other numbers in the lot, some have come behind. In neither bucket has another list changed.
 pub record HasBoth (from to shift : ℕ) (found left aimed joined : List Waiting) (old new : Machine) : Type 0 where
   pub source : old.queues from ≡ queue found from
   pub sent : new.queues from ≡ queue left from
@@ -63,8 +63,8 @@ WasTold token old new = (thread key : ℕ) × (sleep : Sleep)
 abbrev pub Spares : (ℕ → Bool) → Machine → Machine → Type 0
 Spares concerns old new = (key : ℕ) → concerns key ≡ false → new.queues key ≡ old.queues key
 
--- On some sound lot of which no section was open this is what a call did that answered so, and all that was done while a
--- bucket's lock was held. The lists of all keys but those that concern it are as they were.
+-- On some sound lot of which no section was open this is what a call did that answered so, and all that was done while
+-- a bucket's lock was held. The lists of all keys but those that concern it are as they were.
 abbrev pub OnSomeLot : {T : Type 0} → (ℕ → Bool) → (Machine → Result T LotFault → Machine → Type 0) → T → Type 0
 OnSomeLot concerns does answer = (old : Machine) × (new : Machine) × IsQuiet old × does old (Ok answer) new
     × Spares concerns old new × WasHeld old new

@@ -164,8 +164,8 @@ impl<A: Allocator> Chain<A> {
         passed.pour(self);
     }
 
-    /// Shows the tokens of a key's waiters to a filter, in order, until it stops, and moves those that it wants to the front
-    /// of another chain.
+    /// Shows the tokens of a key's waiters to a filter, in order, until it stops, and moves those that it wants to the
+    /// front of another chain.
     pub fn sift<F: FnMut(ParkToken) -> FilterOp + Drop>(
         &mut self,
         key: usize,

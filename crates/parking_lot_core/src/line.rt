@@ -3,7 +3,8 @@ ghost use Rattle.std.specs.Prelude.{◌≡◌, ◌∷◌, ◌++◌, [], true, fa
 ghost use Rattle.parking_lot_core_model.specs.declared.parking.FilterOp.{FilterOp};
 ghost use Rattle.parking_lot_core_model.specs.Results.{Answers, is_stop};
 ghost use Rattle.parking_lot_core_model.specs.Machine.{tokens_of};
-ghost use Rattle.parking_lot_core.specs.Waits.{items, fits, onto, without, found, every, others, any, under, line, queue, picked, kept};
+ghost use Rattle.parking_lot_core.specs.Waits.{items, fits, onto, without, found, every, others, any, under, line};
+ghost use Rattle.parking_lot_core.specs.Waits.{queue, picked, kept};
 
 use crate::chain::{Chain, Waiting, Wanted};
 use parking_lot_core_model::{FilterOp, ParkToken};

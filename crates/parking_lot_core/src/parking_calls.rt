@@ -141,7 +141,8 @@ pub fn unpark_one<R: Wait, A: Allocator, C: FnOnce(UnparkResult) -> UnparkToken 
     ensures told { (token : UnparkToken) × C.post callback result token }
     ensures one { result.unparked_threads ≤ 1 }
     ensures moved { result.requeued_threads ≡ 0 }
-    ensures done { (fair : Bool) × OnSomeLot (λ k. k == key) (Does (busy key) (UnparksOne fair (C.post callback) key)) result }
+    ensures done { (fair : Bool)
+        × OnSomeLot (λ k. k == key) (Does (busy key) (UnparksOne fair (C.post callback) key)) result }
 {
     let (mut bucket, found) = enter(lot, key);
     let fair = bucket.turn();

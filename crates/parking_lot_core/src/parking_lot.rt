@@ -19,8 +19,8 @@ use std::sync::{Mutex, Wait};
 /// Lists of sleeping threads by key, for real threads. It is shared by reference, and keeps the runtime and the
 /// allocator that it was given.
 ///
-/// A key's list stands in one of its buckets, each under a lock of its own; a thread that waits sleeps at a seat of its own.
-/// There are 16 buckets at first, and three or more for each thread that is registered.
+/// A key's list stands in one of its buckets, each under a lock of its own; a thread that waits sleeps at a seat of
+/// its own. There are 16 buckets at first, and three or more for each thread that is registered.
 ///
 /// ```text
 /// let lot = ParkingLot::new(rt, alloc, 16, 7)?;

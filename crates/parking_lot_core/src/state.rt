@@ -1,4 +1,5 @@
-//! What the lock of the numbers of a lot for threads guards: a lot on which they are registered, and where nobody waits.
+//! What the lock of the numbers of a lot for threads guards: a lot on which they are registered, and where nobody
+//! waits.
 //!
 //! No clause can name what a lock guards. So each call on a [`ParkingLot`](crate::ParkingLot) takes the lock and calls
 //! one of the functions here, whose clauses say what it does.
@@ -43,8 +44,8 @@ impl<A: Allocator> State<A> {
 }
 
 impl<A: Allocator + Clone> State<A> {
-    /// Registers a participant of the lot with that number, which is to have so many threads at most, and makes its seat
-    /// and the buckets that are wanted then.
+    /// Registers a participant of the lot with that number, which is to have so many threads at most, and makes its
+    /// seat and the buckets that are wanted then.
     pub fn admit(
         &mut self,
         number: u64,

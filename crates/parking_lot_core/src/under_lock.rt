@@ -71,8 +71,8 @@ pub(crate) fn give_back<A: Allocator>(bucket: MutexGuard<'_, Bucket<A>>, found: 
     drop(found);
 }
 
-/// Gives two buckets' locks back. The waiters of the first key are those of the first, and to those of the second key some
-/// have come from the first behind those that were there, who bear other numbers in the lot.
+/// Gives two buckets' locks back. The waiters of the first key are those of the first, and to those of the second key
+/// some have come from the first behind those that were there, who bear other numbers in the lot.
 pub(crate) fn give_both_back<A: Allocator>(
     source: MutexGuard<'_, Bucket<A>>,
     found_source: Found<A>,

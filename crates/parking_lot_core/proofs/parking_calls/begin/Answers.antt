@@ -12,7 +12,8 @@ returns-then-not-validate-clause-joined g c =
     let no : c.validate.result ≡ false = search rules in
     let valid = subst (λ b. goal.V-post g c.args.validate b) no c.validate.ensures in
     let held : Held xs xs = search rules in
-    none_parks xs xs c.deref.result.now.apart held c.args.waiting absent (λ b. goal.V-post g c.args.validate b) valid refl
+    none_parks xs xs c.deref.result.now.apart held c.args.waiting absent (λ b. goal.V-post g c.args.validate b)
+    valid refl
 
 pub returns-clause-joined : goal.returns-clause-joined
 returns-clause-joined g c =
@@ -23,5 +24,6 @@ returns-clause-joined g c =
     let valid = subst (λ b. goal.V-post g c.args.validate b) yes c.validate.ensures in
     let done : c.join.result ≡ true = search rules in
     let held : Held xs left = search rules in
-    one_parks xs left c.deref_mut.result.now.apart held c.args.waiting absent (λ b. goal.V-post g c.args.validate b) valid
+    one_parks xs left c.deref_mut.result.now.apart held c.args.waiting absent (λ b. goal.V-post g c.args.validate
+    b) valid
     (c.join.ensures.joined done)

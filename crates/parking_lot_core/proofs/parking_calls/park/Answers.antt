@@ -16,5 +16,6 @@ returns-in-Some-sleep-clause-ended g c =
 pub returns-in-None-sleep-clause-ended : goal.returns-in-None-sleep-clause-ended
 returns-in-None-sleep-clause-ended g c =
     let tells : ℕ → Bool → Type 0 = λ key last. goal.T-post g c.args.timed_out key last tt in
-    λ _. subst (λ t. (its : ℕ) × OnSomeLot (λ k. k == its) (Does (λ m. resume_fault m t) (Resumes tells t)) c.give_up.result)
+    λ _. subst (λ t. (its : ℕ) × OnSomeLot (λ k. k == its) (Does (λ m. resume_fault m t) (Resumes tells t))
+    c.give_up.result)
     (ap (λ d. d.thread) c.thread_data.view_is) c.give_up.ensures.ended

@@ -11,7 +11,8 @@ pub returns-clause-one : goal.returns-clause-one
 returns-clause-one g c =
     let xs = waits c.deref_mut-2.result.now.line in
     let few = found_few (fits (Key c.args.key)) xs in
-    let short : length (items c.take_first.new.to) ≤ 1 = subst (λ ys. length ys ≤ 1) (sym c.take_first.ensures.to) few in
+    let short : length (items c.take_first.new.to) ≤ 1 =
+    subst (λ ys. length ys ≤ 1) (sym c.take_first.ensures.to) few in
     subst (λ (r : UnparkResult). r.unparked_threads ≤ 1) (sym c.outcome-result.ensures) short
 
 pub returns-clause-done : goal.returns-clause-done

@@ -23,7 +23,8 @@ returns-then-is_abort-clause-done g c =
     let aimed : waits c.kept_as_found-target.result.1.bucket.value.line ≡ ys = search rules in
     let held : (old new : Machine) (f t shift : ℕ) → HasBoth f t shift xs xs ys ys old new → WasHeld old new =
     λ old new f t shift both. c.give_both_back.ensures old new f t shift
-    (subst (λ ws. HasBoth f t shift ws xs (waits c.kept_as_found-target.result.1.bucket.value.line) ys old new) (sym there)
+    (subst (λ ws. HasBoth f t shift ws xs (waits c.kept_as_found-target.result.1.bucket.value.line) ys old new)
+    (sym there)
     (subst (λ ws. HasBoth f t shift xs xs ws ys old new) (sym aimed) both)) in
     let stops : is_abort c.validate-op.result ≡ true = sym c.is_abort.ensures ∙ c.if-is_abort.true in
     nothing_is_sent c.args.key_from c.args.key_to keys xs ys source.apart target.apart

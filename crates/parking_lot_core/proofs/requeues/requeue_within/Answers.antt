@@ -23,7 +23,8 @@ join_all-requires g c =
     let xs = waits c.deref_mut.result.now.line in
     let left = waits c.deref_mut-2.result.now.line in
     let l : left ≡ rest_of c.validate-op.result c.args.key_from xs = search rules in
-    apart_moved c.validate-op.result c.args.key_from xs left (items c.pull-woken.result.1) c.deref_mut.result.now.apart l
+    apart_moved c.validate-op.result c.args.key_from xs left (items c.pull-woken.result.1)
+    c.deref_mut.result.now.apart l
     c.pull-woken.ensures.moved
 
 pub returns-clause-done : goal.returns-clause-done

@@ -5,7 +5,8 @@ use Rattle.parking_lot_core.proofs.chain.Chain.sift.Goals as goal
 
 pub loop-first-preserved-in-Unpark : goal.loop-first-preserved-in-Unpark
 loop-first-preserved-in-Unpark g c =
-    let here : (c.in-Some.first.key == c.args.key) ≡ true = eq-eqb c.in-Some.first.key c.args.key c.if-first-key.false in (
+    let here : (c.in-Some.first.key == c.args.key)
+    ≡ true = eq-eqb c.in-Some.first.key c.args.key c.if-first-key.false in (
       search of_calls,
       sifted_unpark (goal.F-step g) c.args.filter c.args.key (items c.args.self.now) (items c.args.to.now)
           c.loop-first.filter c.filter.new.self (items c.loop-first.self) (items c.loop-first.passed)
@@ -16,7 +17,8 @@ loop-first-preserved-in-Unpark g c =
 
 pub loop-first-preserved : goal.loop-first-preserved
 loop-first-preserved g c =
-    let here : (c.in-Some.first.key == c.args.key) ≡ true = eq-eqb c.in-Some.first.key c.args.key c.if-first-key.false in (
+    let here : (c.in-Some.first.key == c.args.key)
+    ≡ true = eq-eqb c.in-Some.first.key c.args.key c.if-first-key.false in (
       search of_calls,
       sifted_skip (goal.F-step g) c.args.filter c.args.key (items c.args.self.now) (items c.args.to.now)
           c.loop-first.filter c.filter.new.self (items c.loop-first.self) (items c.loop-first.passed)
@@ -27,7 +29,8 @@ loop-first-preserved g c =
 
 pub returns-in-Stop : goal.returns-in-Stop
 returns-in-Stop g c =
-    let here : (c.in-Some.first.key == c.args.key) ≡ true = eq-eqb c.in-Some.first.key c.args.key c.if-first-key.false in
+    let here : (c.in-Some.first.key == c.args.key)
+    ≡ true = eq-eqb c.in-Some.first.key c.args.key c.if-first-key.false in
     sifted_stop (goal.F-step g) c.args.filter c.args.key (items c.args.self.now) (items c.args.to.now)
     c.loop-first.filter c.filter.new.self (items c.loop-first.self) (items c.loop-first.passed)
     (items c.loop-first.to) c.in-Some.first (items c.pour.new.to) c.loop-first.invariant.1
