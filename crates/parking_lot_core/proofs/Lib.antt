@@ -1,9 +1,9 @@
 mod Apart
-mod Closed
 mod Crossing
 mod Lists
 mod Lots
 mod Moves
+mod Numbers
 mod Queues
 mod Requeued
 mod Sifts

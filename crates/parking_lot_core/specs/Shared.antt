@@ -1,6 +1,6 @@
 -- What calls on the lot for threads say, where the lock alone knows the lot.
 use Rattle.std.specs.Prelude.{◌≡◌, ◌⊎◌, ◌==◌, ◌+◌, ◌++◌, ◌∷◌, ℕ, nat_lt, Bool, true, false, if◌then◌else◌, MatchBool}
-use Rattle.std.specs.Prelude.{List, [], length, Option, Some, None, Result, Ok, slice_set}
+use Rattle.std.specs.Prelude.{List, [], length, Option, Some, None, Result, Ok, slice_get, slice_set}
 use Rattle.parking_lot_core_model.specs.declared.fault.LotFault.{LotFault}
 use Rattle.parking_lot_core_model.specs.declared.fault.LotFault.TheVariants.{TooManyThreads, NoMemory}
 use Rattle.parking_lot_core_model.specs.declared.parking.ParkToken.{ParkToken}
@@ -12,7 +12,7 @@ use Rattle.parking_lot_core_model.specs.declared.place.Place.TheVariants.{Runnin
 use Rattle.parking_lot_core_model.specs.declared.place.Sleep.{Sleep}
 use Rattle.parking_lot_core_model.specs.declared.place.Waiter.{Waiter}
 use Rattle.parking_lot_core_model.specs.Results.{Answers, is_stop, is_left, unpark_result, chosen_by, passed_by}
-use Rattle.parking_lot_core_model.specs.Machine.{Machine, free_number, register_fault, tokens_of}
+use Rattle.parking_lot_core_model.specs.Machine.{Machine, free_number, register_fault, retired, tokens_of}
 use Rattle.parking_lot_core_model.specs.Operations.{is_abort}
 use Rattle.parking_lot_core_model.specs.Places.{place_at}
 use Rattle.parking_lot_core_model.specs.Sound.{Sound}
@@ -58,6 +58,11 @@ abbrev pub WasTold : UnparkToken → Machine → Machine → Type 0
 WasTold token old new = (thread key : ℕ) × (sleep : Sleep)
     × (place_at old.places thread ≡ Some (Taken token key sleep true))
     × (new ≡ record old { places = slice_set old.places thread (Some Running) })
+
+-- Of the numbers that are left so this one isn't given out, and it was before.
+abbrev pub WasFreed : ℕ → List Bool → Machine → Machine → Type 0
+WasFreed thread given old new = (slice_get given thread ≡ Some false) × (place_at old.places thread ≡ Some Running)
+    × (new ≡ retired old thread)
 
 -- the lists of all other keys than those are as they were
 abbrev pub Spares : (ℕ → Bool) → Machine → Machine → Type 0

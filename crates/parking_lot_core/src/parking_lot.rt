@@ -10,11 +10,14 @@ use crate::state::State;
 use crate::stuck::stuck;
 use crate::table::Table;
 use crate::thread_data::ThreadData;
-use crate::under_lock::{close, open};
-use parking_lot_core_model::{Lot, LotFault, SizeFault};
+use crate::under_lock::close;
+use parking_lot_core_model::{LotFault, SizeFault};
 use std::alloc::{Allocator, Global};
 use std::sync::atomic::{AtomicUsize, Ordering};
 use std::sync::{Mutex, Wait};
+
+/// The most threads that a lot can have at one time.
+const LIMIT: usize = 65_536;
 
 /// Lists of sleeping threads by key, for real threads. It is shared by reference, and keeps the runtime and the
 /// allocator that it was given.
@@ -58,17 +61,17 @@ impl<R: Drop, A: Allocator + Clone> ParkingLot<R, A> {
         ensures size { IsErrOf result BadSize ↔ ((max_threads ≡ 0) ⊎ (65536 < max_threads)) }
         ensures made { IfOk result (λ lot. (lot.rt ≡ rt) × (lot.number ≡ number) × (lot.max_threads ≡ max_threads)) }
     {
-        // A bad size is told before refused memory, so the copies' refusals are looked at behind the lot's.
-        let for_table: Result<A, _> = alloc.clone();
-        let for_seats: Result<A, _> = alloc.clone();
-        let lot = Lot::new(alloc, max_threads, number)?;
-        let table = Table::new(for_table?)?;
-        let seats = Seats::new(for_seats?)?;
+        if max_threads == 0 || max_threads > LIMIT {
+            return Err(SizeFault::BadSize);
+        }
+        let state = State::new(alloc.clone()?);
+        let table = Table::new(alloc.clone()?)?;
+        let seats = Seats::new(alloc)?;
         Ok(ParkingLot {
             rt,
             number,
             max_threads,
-            state: Mutex::new(State::new(lot)),
+            state: Mutex::new(state),
             table,
             seats,
             keys: AtomicUsize::new(0),
@@ -149,7 +152,11 @@ impl<R: Wait, A: Allocator + Clone> ParkingLot<R, A> {
         ensures full { IfErr result (IsRefused self.now.max_threads) }
     {
         let mut state = self.state.lock(&self.rt);
-        let (made, grown) = state.admit(self.number, self.max_threads, &self.seats, &self.table)?;
+        let admitted = state.admit(self.number, self.max_threads, &self.seats, &self.table);
+        let (made, grown) = match admitted {
+            Ok(admitted) => admitted,
+            Err(fault) => return Err(fault),
+        };
         if let Some(buckets) = grown {
             self.table.grow(&self.rt, buckets);
         }
@@ -168,12 +175,11 @@ impl<R: Wait, A: Allocator + Clone> ParkingLot<R, A> {
         ensures { OnSomeLot (λ key. false)
             (Does (λ m. retire_fault m thread_data.thread) (Makes (λ m. retired m thread_data.thread))) result }
     {
-        let (mut state, known) = open(self);
-        let retired = state.retire(thread_data.thread_number());
-        close(state, known);
-        match retired {
-            Ok(()) => {}
-            Err(_) => match stuck(&self.rt) {},
+        let thread = thread_data.thread_number();
+        let mut state = self.state.lock(&self.rt);
+        if !state.retire(thread) {
+            match stuck(&self.rt) {}
         }
+        close(state, thread);
     }
 }

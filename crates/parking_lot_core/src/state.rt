@@ -1,45 +1,51 @@
-//! What the lock of the numbers of a lot for threads guards: a lot on which they are registered, and where nobody
-//! waits.
+//! What the lock of the numbers of a lot for threads guards.
 //!
-//! No clause can name what a lock guards. So each call on a [`ParkingLot`](crate::ParkingLot) takes the lock and calls
-//! one of the functions here, whose clauses say what it does.
-ghost use Rattle.std.specs.Prelude.{◌≡◌, ◌<◌, ◌⊎◌, IfOk, IfErr, IfSome, Some, Err, []};
-ghost use Rattle.parking_lot_core_model.specs.Machine.{machine, free_number};
-ghost use Rattle.parking_lot_core_model.specs.Machine.{retire_fault, registered, retired, Does, Makes};
-ghost use Rattle.parking_lot_core.specs.Shared.{admit_fault, AreClosed, IsQuiet};
+//! No clause can name what a lock guards. So each call takes the lock and calls one of the functions here, whose
+//! clauses say what it does.
+ghost use Rattle.std.specs.Prelude.{◌≡◌, ◌<◌, ◌≤◌, ◌⊎◌, IfOk, IfErr, OnErr, Some, true, false, not, [], position};
+ghost use Rattle.std.specs.Prelude.{slice_get, slice_set};
+ghost use Rattle.std.specs.List.{position_or_len};
 ghost use Rattle.parking_lot_core_model.specs.declared.fault.LotFault.TheVariants.{TooManyThreads, NoMemory};
 
 use crate::chain::{Chain, Waiting};
 use crate::seat::Seats;
 use crate::table::{Buckets, Table};
 use crate::thread_data::ThreadData;
-use parking_lot_core_model::{DEFAULT_PARK_TOKEN, Lot, LotFault, Waiter};
+use parking_lot_core_model::{DEFAULT_PARK_TOKEN, LotFault, Waiter};
 use std::alloc::{AllocError, Allocator};
 
-/// What that lock guards.
+/// The numbers of threads.
 #[derive(Drop)]
 pub(crate) struct State<A: Allocator> {
-    pub lot: Lot<A>,
-    ghost closed: { AreClosed (machine lot) },
+    /// Whether each is given out.
+    pub given: Vec<bool, A>,
 }
 
 impl<A: Allocator> State<A> {
-    /// Around a lot on which nobody has registered yet.
-    pub fn new(lot: Lot<A>) -> State<A>
-        requires { AreClosed (machine lot) }
-        ensures { result.lot ≡ lot }
-    {
-        State { lot }
+    /// None is.
+    pub fn new(alloc: A) -> State<A> {
+        State {
+            given: Vec::new(alloc),
+        }
     }
 
-    /// Gives a running thread's number back.
-    pub fn retire(&mut self, thread: usize) -> Result<(), LotFault>
-        ensures quiet { IsQuiet (machine self.old.lot) }
-        ensures lot { Does (λ m. retire_fault m thread) (Makes (λ m. retired m thread)) (machine self.old.lot) result
-            (machine self.new.lot) }
+    /// Takes a number back, and answers whether it was given out.
+    pub fn retire(&mut self, thread: usize) -> bool
+        ensures { result ≡ true → (slice_get self.old.given.items thread ≡ Some true)
+            × (self.new.given.items ≡ slice_set self.old.given.items thread false) }
     {
-        self.lot.known();
-        self.lot.retire(thread)
+        if self.given.get(thread) == Some(&true) {
+            self.given[thread] = false;
+            return true;
+        }
+        false
+    }
+
+    /// The least number that is free.
+    fn next_number(&self) -> usize
+        ensures { result ≡ position_or_len not self.now.given.items }
+    {
+        next_free(&self.given)
     }
 }
 
@@ -53,30 +59,26 @@ impl<A: Allocator + Clone> State<A> {
         seats: &Seats<A>,
         table: &Table<A>,
     ) -> Result<(ThreadData<A>, Option<Buckets<A>>), LotFault>
-        ensures quiet { IsQuiet (machine self.old.lot) }
-        ensures full { IfSome (admit_fault max_threads (machine self.old.lot)) (λ fault. result ≡ Err fault) }
         ensures ok { IfOk result
             (λ made. (made.0 ≡ record {
               lot = number;
-              thread = free_number (machine self.old.lot).places;
+              thread = position_or_len not self.old.given.items;
               resources = [];
-            }) × (made.0.thread < max_threads)
-            × (machine self.new.lot ≡ registered (machine self.old.lot))) }
-        ensures err { IfErr result
-            (λ fault. ((admit_fault max_threads (machine self.old.lot) ≡ Some fault) ⊎ (fault ≡ NoMemory))
-            × (machine self.new.lot ≡ machine self.old.lot)) }
-        ensures fault { IfErr result (λ fault. (fault ≡ TooManyThreads) ⊎ (fault ≡ NoMemory)) }
+            }) × (made.0.thread < max_threads)) }
+        ensures full { IfErr result (λ fault.
+            ((fault ≡ TooManyThreads) × (max_threads ≤ position_or_len not self.old.given.items))
+            ⊎ (fault ≡ NoMemory)) }
+        ensures err { OnErr result (self.new.given.items ≡ self.old.given.items) }
     {
-        self.lot.known();
-        if let Some(fault) = self.admit_fault(max_threads) {
-            return Err(fault);
+        let thread = self.next_number();
+        if thread >= max_threads {
+            return Err(LotFault::TooManyThreads);
         }
-        let next = self.lot.next_number();
         let resources = Vec::new(table.allocator().clone()?);
         let node = blank(table.allocator().clone()?)?;
-        seats.make(next)?;
-        let grown = table.wanted(next.saturating_add(1))?;
-        let thread = self.lot.register()?;
+        seats.make(thread)?;
+        let grown = table.wanted(thread.saturating_add(1))?;
+        self.give(thread)?;
         let made = ThreadData {
             lot: number,
             thread,
@@ -86,17 +88,31 @@ impl<A: Allocator + Clone> State<A> {
         Ok((made, grown))
     }
 
-    /// Why nobody can register now. It is never that a section is open.
-    fn admit_fault(&self, max_threads: usize) -> Option<LotFault>
-        ensures fault { result ≡ admit_fault max_threads (machine self.now.lot) }
-        ensures full { IfSome result (λ fault. fault ≡ TooManyThreads) }
+    /// Gives a number out, the first behind those that there were or one of these.
+    fn give(&mut self, thread: usize) -> Result<(), AllocError>
+        ensures { OnErr result (self.new.given.items ≡ self.old.given.items) }
     {
-        if self.lot.next_number() < max_threads {
-            self.lot.register_fault()
-        } else {
-            Some(LotFault::TooManyThreads)
+        if thread < self.given.len() {
+            self.given[thread] = true;
+            return Ok(());
         }
+        self.given.push(true)?;
+        Ok(())
     }
+}
+
+/// The least number that is free.
+fn next_free(given: &[bool]) -> usize
+    ensures { result ≡ position_or_len not given.now }
+{
+    first_free(given).unwrap_or(given.len())
+}
+
+/// The least of the numbers that there were which is free.
+fn first_free(given: &[bool]) -> Option<usize>
+    ensures { result ≡ position not given.now }
+{
+    given.iter().position(|is_given| !*is_given)
 }
 
 /// A node that waits for nothing yet.

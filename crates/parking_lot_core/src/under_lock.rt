@@ -2,8 +2,8 @@
 ghost use Rattle.std.specs.Prelude.{◌≡◌, ℕ};
 ghost use Rattle.std.specs.Sync.Mutex.{mutex_guard_value};
 ghost use Rattle.parking_lot_core_model.specs.declared.parking.UnparkToken.{UnparkToken};
-ghost use Rattle.parking_lot_core_model.specs.Machine.{Machine, machine};
-ghost use Rattle.parking_lot_core.specs.Shared.{WasHeld, HasLists, HasBoth, WasTold};
+ghost use Rattle.parking_lot_core_model.specs.Machine.{Machine};
+ghost use Rattle.parking_lot_core.specs.Shared.{WasHeld, HasLists, HasBoth, WasTold, WasFreed};
 ghost use Rattle.parking_lot_core.specs.Lines.{waits};
 
 use crate::bucket::Bucket;
@@ -102,29 +102,11 @@ pub(crate) fn collect<A: Allocator>(
     told.token
 }
 
-/// What was found under the lock of the numbers of threads, for proofs alone.
-#[derive(Drop)]
-pub(crate) struct Known<A: Allocator> {
-    state: Snapshot<State<A>>,
-}
-
-/// Waits for the lock of the numbers of threads.
-pub(crate) fn open<R: Wait, A: Allocator>(
-    lot: &ParkingLot<R, A>,
-) -> (MutexGuard<'_, State<A>>, Known<A>)
-    ensures { result.1.state.value ≡ mutex_guard_value result.0 }
-{
-    let state = lot.state.lock(&lot.rt);
-    let known = Known {
-        state: Snapshot::of(&*state),
-    };
-    (state, known)
-}
-
-/// Gives that lock back.
-pub(crate) fn close<A: Allocator>(state: MutexGuard<'_, State<A>>, known: Known<A>)
-    ensures { WasHeld (machine known.state.value.lot) (machine (mutex_guard_value state.entry).lot) }
+/// Gives the lock of the numbers of threads back, of which one is free now.
+pub(crate) fn close<A: Allocator>(state: MutexGuard<'_, State<A>>, thread: usize)
+    ensures { (old new : Machine) → WasFreed thread (mutex_guard_value state.entry).given.items old new
+        → WasHeld old new }
 {
     drop(state);
-    drop(known);
+    let _ = thread;
 }
