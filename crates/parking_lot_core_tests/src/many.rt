@@ -308,9 +308,9 @@ impl<R: Wait + Clock + Copy + Drop> Case<R> for Beside {
 fn a_refused_growth_leaves_a_sleeper(rt: HostRuntime) {
     for (next, growths) in [
         (Beside(1), 1),
-        (Beside(5), 3),
-        (Beside(10), 3),
-        (Beside(16), 5),
+        (Beside(5), 2),
+        (Beside(10), 2),
+        (Beside(16), 3),
     ] {
         let refused = make_in_turn(rt, rt.alloc(), next).unwrap_or(0);
         let threads = next.0;
