@@ -12,6 +12,8 @@ mod lists;
 #[cfg(test)]
 mod lock_words;
 #[cfg(test)]
+mod many;
+#[cfg(test)]
 mod parking;
 #[cfg(test)]
 mod refusing;

@@ -11,12 +11,12 @@ use std::test::Fail;
 use std::thread;
 use std::time::{Clock, Instant};
 
-const TURNS: u32 = 10_000_000;
+pub const TURNS: u32 = 10_000_000;
 
 const ROUNDS: usize = 100_000;
 
 /// Waits until the flag has come so far, and answers whether it has.
-fn has_come(flag: &AtomicUsize, value: usize) -> bool {
+pub fn has_come(flag: &AtomicUsize, value: usize) -> bool {
     for _turn in 0..TURNS {
         if flag.load(Ordering::SeqCst) == value {
             return true;
@@ -26,10 +26,10 @@ fn has_come(flag: &AtomicUsize, value: usize) -> bool {
     false
 }
 
-/// Unparks a waiter of key 3, as soon as there is one.
-fn unparked<R: Wait>(lot: &ParkingLot<R>, token: usize) -> bool {
+/// Unparks a waiter of the key, as soon as there is one.
+pub fn unparked<R: Wait>(lot: &ParkingLot<R>, key: usize, token: usize) -> bool {
     for _turn in 0..TURNS {
-        if unpark_one(lot, 3, |_| UnparkToken(token)).unparked_threads == 1 {
+        if unpark_one(lot, key, |_| UnparkToken(token)).unparked_threads == 1 {
             return true;
         }
         thread_yield();
@@ -37,10 +37,11 @@ fn unparked<R: Wait>(lot: &ParkingLot<R>, token: usize) -> bool {
     false
 }
 
-/// Parks under key 3, as long as it isn't over.
-fn parked<R: Wait + Clock>(
+/// Parks under the key, as long as it isn't over.
+pub fn parked<R: Wait + Clock>(
     lot: &ParkingLot<R>,
     me: &mut ThreadData,
+    key: usize,
     over: &AtomicUsize,
 ) -> Option<ParkResult> {
     let going = 0usize;
@@ -50,7 +51,7 @@ fn parked<R: Wait + Clock>(
     Some(park(
         lot,
         me,
-        3,
+        key,
         || over.load(Ordering::SeqCst) == going,
         || {},
         |_, _| {},
@@ -66,7 +67,7 @@ fn parked_each<R: Wait + Clock>(
     over: &AtomicUsize,
 ) -> bool {
     for round in 0..ROUNDS {
-        if parked(lot, me, over) != Some(ParkResult::Unparked(UnparkToken(round))) {
+        if parked(lot, me, 3, over) != Some(ParkResult::Unparked(UnparkToken(round))) {
             return false;
         }
     }
@@ -76,7 +77,7 @@ fn parked_each<R: Wait + Clock>(
 /// Unparks so often, with the number of the round. Where nobody comes it says that it is over.
 fn unparked_each<R: Wait>(lot: &ParkingLot<R>, over: &AtomicUsize) -> bool {
     for round in 0..ROUNDS {
-        if !unparked(lot, round) {
+        if !unparked(lot, 3, round) {
             over.store(1, Ordering::SeqCst);
             unpark_all(lot, 3, UnparkToken(ROUNDS));
             return false;
@@ -126,7 +127,7 @@ fn parked_late<R: Wait + Clock>(
 
 /// Unparks a waiter of key 3 in its turn.
 fn unparked_then<R: Wait>(lot: &ParkingLot<R>, step: &AtomicUsize) -> bool {
-    let woke = has_come(step, 1) && unparked(lot, 9);
+    let woke = has_come(step, 1) && unparked(lot, 3, 9);
     step.store(2, Ordering::SeqCst);
     woke
 }
@@ -147,20 +148,21 @@ fn a_deadline_behind_a_taking_is_no_time_out(rt: HostRuntime) -> Result<(), Fail
     Ok(())
 }
 
-/// Parks under key 3 as the sleeper of that number, behind those with lesser numbers, and answers its token.
-fn sleeps<R: Wait + Clock>(
+/// Parks under the key as the sleeper of that number, behind those with lesser numbers, and answers its token.
+pub fn sleeps<R: Wait + Clock>(
     lot: &ParkingLot<R>,
     joined: &AtomicUsize,
     number: usize,
+    key: usize,
 ) -> Option<UnparkToken> {
     let mut me = lot.thread_data().ok()?;
-    if !has_come(joined, number) || number >= 3 {
+    if !has_come(joined, number) || number >= 8 {
         return None;
     }
     let ended = park(
         lot,
         &mut me,
-        3,
+        key,
         || true,
         || joined.store(number + 1, Ordering::SeqCst),
         |_, _| {},
@@ -191,7 +193,7 @@ fn a_filter_takes_whom_it_wants(rt: HostRuntime) -> Result<(), Fail> {
         &rt,
         rt.alloc(),
         3,
-        &|number| sleeps(&lot, &joined, number),
+        &|number| sleeps(&lot, &joined, number, 3),
     );
     let second = |token: ParkToken| match token {
         ParkToken(0) => FilterOp::Skip,
@@ -222,7 +224,7 @@ fn requeued_threads_wake_under_the_other_key(rt: HostRuntime) -> Result<(), Fail
         &rt,
         rt.alloc(),
         3,
-        &|number| sleeps(&lot, &joined, number),
+        &|number| sleeps(&lot, &joined, number, 3),
     );
     let waker = || {
         if !has_come(&joined, 3) {
