@@ -72,3 +72,11 @@ module _ (p : Waiting → Bool) where
       both : (b : Bool) → cond b true false ≡ b
       both true = refl
       both false = refl
+
+-- nobody is newer
+pub none_newer : (front back : List Waiting) → back ≡ [] → front ++ onto back [] ≡ front
+none_newer front back e = ap (λ xs. front ++ onto xs []) e ∙ append-nil front
+
+-- nobody is there
+pub nobody_there : (front back : List Waiting) → front ≡ [] → back ≡ [] → front ++ onto back [] ≡ []
+nobody_there front back f b = none_newer front back b ∙ f

@@ -52,6 +52,14 @@ impl<A: Allocator> Bucket<A> {
         self.turns == 0
     }
 
+    /// Whether nobody is there, as in most buckets.
+    #[inline(always)]
+    pub fn is_empty(&self) -> bool
+        ensures { result ≡ true → waits self.now.line ≡ [] }
+    {
+        self.line.is_empty()
+    }
+
     /// Whether one of those that are wanted is there.
     pub fn has(&self, wanted: Wanted) -> bool
         ensures { result ≡ any (fits wanted) (waits self.now.line) }

@@ -45,10 +45,29 @@ impl<A: Allocator> Line<A> {
         ensures front { items self.new.front ≡ line self.old.front self.old.back }
         ensures back { items self.new.back ≡ [] }
     {
+        if self.back.is_nil() {
+            return;
+        }
+        self.fold();
+    }
+
+    /// The same where the second isn't empty.
+    fn fold(&mut self)
+        ensures front { items self.new.front ≡ line self.old.front self.old.back }
+        ensures back { items self.new.back ≡ [] }
+    {
         let mut passed = Chain::Nil;
         self.front.pour(&mut passed);
         self.back.pour(&mut self.front);
         passed.pour(&mut self.front);
+    }
+
+    /// Whether nobody is there.
+    #[inline(always)]
+    pub fn is_empty(&self) -> bool
+        ensures { result ≡ true → line self.now.front self.now.back ≡ [] }
+    {
+        self.front.is_nil() && self.back.is_nil()
     }
 
     /// Whether one of those that are wanted is there.

@@ -1,13 +1,16 @@
 //! Parking and unparking of real threads.
 ghost use Rattle.std.specs.Prelude.{◌≡◌, ◌≢◌, ◌<◌, ◌≤◌, ◌==◌, ◌||◌, ℕ, Bool, true, if◌then◌else◌, None, Some, IsSome};
-ghost use Rattle.std.specs.Prelude.{is_some, MatchBool};
+ghost use Rattle.std.specs.Prelude.{is_some, MatchBool, []};
+ghost use Rattle.std.specs.Sync.Mutex.{mutex_guard_value};
 ghost use Rattle.parking_lot_core_model.specs.declared.parking.ParkResult.TheVariants.{Invalid, TimedOut};
 ghost use Rattle.parking_lot_core_model.specs.declared.parking.UnparkToken.{UnparkToken};
 ghost use Rattle.parking_lot_core_model.specs.Operations.{Parks, Resumes, UnparksOne, UnparksAll, UnparksAndRequeues};
 ghost use Rattle.parking_lot_core_model.specs.Operations.{UnparksByFilter};
 ghost use Rattle.parking_lot_core_model.specs.Machine.{busy, either_busy, enter_fault, resume_fault, Does};
+ghost use Rattle.parking_lot_core.specs.Lines.{waits};
 ghost use Rattle.parking_lot_core.specs.Shared.{OnSomeLot, Counts, Tells};
 
+use crate::bucket::Bucket;
 use crate::chain::{Chain, Waiting, Wanted};
 use crate::going_on::{give_up, outcome, ring};
 use crate::parking_lot::ParkingLot;
@@ -16,12 +19,12 @@ use crate::seat::Seat;
 use crate::stuck::stuck;
 use crate::table::Both;
 use crate::thread_data::ThreadData;
-use crate::under_lock::{collect, enter, give_back};
+use crate::under_lock::{collect, enter, give_back, kept_as_found};
 use parking_lot_core_model::{
     FilterOp, ParkResult, ParkToken, RequeueOp, UnparkResult, UnparkToken, Waiter,
 };
 use std::alloc::Allocator;
-use std::sync::Wait;
+use std::sync::{MutexGuard, Wait};
 use std::time::{Clock, Instant};
 
 /// Parks the thread under a key. The validation is asked while the key's list is locked; where it answers false,
@@ -144,8 +147,58 @@ pub fn unpark_one<R: Wait, A: Allocator, C: FnOnce(UnparkResult) -> UnparkToken 
     ensures done { (fair : Bool)
         × OnSomeLot (λ k. k == key) (Does (busy key) (UnparksOne fair (C.post callback) key)) result }
 {
-    let (mut bucket, found) = enter(lot, key);
+    let mut bucket = lot.table.lock(&lot.rt, key);
     let fair = bucket.turn();
+    if bucket.is_empty() {
+        return unpark_nobody(bucket, key, fair, callback);
+    }
+    unpark_first(lot, bucket, key, fair, callback)
+}
+
+/// Gives a bucket's lock back, in which nobody waits.
+#[inline(always)]
+fn unpark_nobody<A: Allocator, C: FnOnce(UnparkResult) -> UnparkToken + Drop>(
+    bucket: MutexGuard<'_, Bucket<A>>,
+    key: usize,
+    fair: bool,
+    callback: C,
+) -> UnparkResult
+    requires nobody { waits (mutex_guard_value bucket).line ≡ [] }
+    requires callback { C.IsAlwaysCallable callback }
+    ensures told { (token : UnparkToken) × C.post callback result token }
+    ensures one { result.unparked_threads ≤ 1 }
+    ensures moved { result.requeued_threads ≡ 0 }
+    ensures done { OnSomeLot (λ k. k == key) (Does (busy key) (UnparksOne fair (C.post callback) key)) result }
+{
+    let (bucket, found) = kept_as_found(bucket);
+    let result = UnparkResult {
+        unparked_threads: 0,
+        requeued_threads: 0,
+        have_more_threads: false,
+        be_fair: fair,
+    };
+    callback(result);
+    give_back(bucket, found);
+    let _ = key;
+    result
+}
+
+/// Takes the first waiter of a key of a bucket, whose lock it gives back, and wakes it.
+#[inline(never)]
+fn unpark_first<R: Wait, A: Allocator, C: FnOnce(UnparkResult) -> UnparkToken + Drop>(
+    lot: &ParkingLot<R, A>,
+    bucket: MutexGuard<'_, Bucket<A>>,
+    key: usize,
+    fair: bool,
+    callback: C,
+) -> UnparkResult
+    requires { C.IsAlwaysCallable callback }
+    ensures told { (token : UnparkToken) × C.post callback result token }
+    ensures one { result.unparked_threads ≤ 1 }
+    ensures moved { result.requeued_threads ≡ 0 }
+    ensures done { OnSomeLot (λ k. k == key) (Does (busy key) (UnparksOne fair (C.post callback) key)) result }
+{
+    let (mut bucket, found) = kept_as_found(bucket);
     let mut taken = Chain::Nil;
     bucket.take_first(Wanted::Key(key), &mut taken);
     let result = outcome(lot, &bucket, key, &taken, &Chain::Nil, fair);

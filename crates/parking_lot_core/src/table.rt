@@ -47,7 +47,7 @@ impl<A: Allocator> Table<A> {
     /// The bucket of a key on a level.
     fn bucket(&self, level: usize, key: usize) -> Option<&Mutex<Bucket<A>>> {
         let buckets = self.levels.rows(level)?;
-        Some(buckets.get(key.checked_rem(buckets.len())?)?)
+        Some(buckets.get(place(key, buckets.len())?)?)
     }
 
     /// The bucket of a key on a level, had by its lock, where its waiters haven't moved.
@@ -64,9 +64,35 @@ impl<A: Allocator> Table<A> {
         Some(Some(bucket))
     }
 
-    /// Waits for the lock of a key's bucket. Where the bucket has moved it looks again, one level on.
+    /// The bucket of a key on a level, where nobody has its lock now and its waiters haven't moved.
+    #[inline(always)]
+    fn tried(&self, level: usize, key: usize) -> Option<MutexGuard<'_, Bucket<A>>> {
+        let bucket = self.bucket(level, key)?.try_lock()?;
+        if bucket.moved {
+            return None;
+        }
+        Some(bucket)
+    }
+
+    /// Waits for the lock of a key's bucket.
+    #[inline(always)]
     pub fn lock<R: Wait>(&self, rt: &R, key: usize) -> MutexGuard<'_, Bucket<A>> {
-        let mut level = self.level.load(Ordering::SeqCst);
+        let level = self.level.load(Ordering::SeqCst);
+        match self.tried(level, key) {
+            Some(bucket) => bucket,
+            None => self.lock_from(rt, level, key),
+        }
+    }
+
+    /// The same from a level on. Where the bucket has moved it looks again, one level on.
+    #[cold]
+    fn lock_from<R: Wait>(
+        &self,
+        rt: &R,
+        level: usize,
+        key: usize,
+    ) -> MutexGuard<'_, Bucket<A>> {
+        let mut level = level;
         for _turn in rt.forever() {
             match self.had(rt, level, key) {
                 Some(Some(bucket)) => return bucket,
@@ -84,7 +110,7 @@ impl<A: Allocator> Table<A> {
 
     /// Where the bucket of a key on a level stands.
     fn spot(&self, level: usize, key: usize) -> Option<Spot> {
-        let bucket = key.checked_rem(self.levels.rows(level)?.len())?;
+        let bucket = place(key, self.levels.rows(level)?.len())?;
         Some(Spot { level, bucket })
     }
 
@@ -179,6 +205,12 @@ impl Spot {
     fn is_before(self, other: Spot) -> bool {
         self.level < other.level || (self.level == other.level && self.bucket < other.bucket)
     }
+}
+
+/// A key's bucket among so many, a power of two: the key modulo that number.
+#[inline(always)]
+fn place(key: usize, count: usize) -> Option<usize> {
+    Some(key & count.checked_sub(1)?)
 }
 
 /// So many buckets in which nobody waits.

@@ -23,6 +23,7 @@ pub(crate) struct Found<A: Allocator> {
 }
 
 /// Waits for the lock of a key's bucket.
+#[inline(always)]
 pub(crate) fn enter<R: Wait, A: Allocator>(
     lot: &ParkingLot<R, A>,
     key: usize,
@@ -33,6 +34,7 @@ pub(crate) fn enter<R: Wait, A: Allocator>(
 }
 
 /// The same of a bucket that was had just now.
+#[inline(always)]
 pub(crate) fn kept_as_found<A: Allocator>(
     bucket: MutexGuard<'_, Bucket<A>>,
 ) -> (MutexGuard<'_, Bucket<A>>, Found<A>)
@@ -63,6 +65,7 @@ pub(crate) fn enter_for<'l, R: Wait, A: Allocator>(
 }
 
 /// Gives a bucket's lock back.
+#[inline(always)]
 pub(crate) fn give_back<A: Allocator>(bucket: MutexGuard<'_, Bucket<A>>, found: Found<A>)
     ensures { (old new : Machine) → HasLists old (waits found.bucket.value.line)
         → HasLists new (waits (mutex_guard_value bucket.entry).line) → WasHeld old new }

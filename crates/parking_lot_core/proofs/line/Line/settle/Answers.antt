@@ -1,9 +1,8 @@
+use Rattle.std.proofs.Common.{rules, sym}
 use Rattle.parking_lot_core.specs.Waits.{items}
-use Rattle.parking_lot_core.proofs.Lists.{settled}
+use Rattle.parking_lot_core.proofs.Lists.{none_newer}
 use Rattle.parking_lot_core.proofs.line.Line.settle.Goals as goal
 
-pub returns-clause-front : goal.returns-clause-front
-returns-clause-front g c =
-    settled (items c.args.self.now.front) (items c.args.self.now.back) (items c.pour.new.to) (items c.pour.new.self)
-    (items c.pour-2.new.to) (items c.pour-3.new.to) c.pour.ensures.to c.pour.ensures.left c.pour-2.ensures.to
-    c.pour-3.ensures.to
+pub returns-then-is_nil-clause-front : goal.returns-then-is_nil-clause-front
+returns-then-is_nil-clause-front g c =
+    sym (none_newer (items c.args.self.now.front) (items c.args.self.now.back) (c.is_nil.ensures c.if-is_nil.true))

@@ -5,7 +5,7 @@ use Rattle.parking_lot_core.specs.Waits.{items, any, fits}
 use Rattle.parking_lot_core.specs.Lines.{waits}
 use Rattle.parking_lot_core.proofs.Waiters.{found_few}
 use Rattle.parking_lot_core.proofs.Moves.{Held, one_is_unparked}
-use Rattle.parking_lot_core.proofs.parking_calls.unpark_one.Goals as goal
+use Rattle.parking_lot_core.proofs.parking_calls.unpark_first.Goals as goal
 
 pub returns-clause-one : goal.returns-clause-one
 returns-clause-one g c =
