@@ -9,7 +9,7 @@ use Rattle.parking_lot_core.proofs.parking_calls.unpark_first.Goals as goal
 
 pub returns-clause-one : goal.returns-clause-one
 returns-clause-one g c =
-    let xs = waits c.deref_mut-2.result.now.line in
+    let xs = waits c.deref_mut.result.now.line in
     let few = found_few (fits (Key c.args.key)) xs in
     let short : length (items c.take_first.new.to) ≤ 1 =
     subst (λ ys. length ys ≤ 1) (sym c.take_first.ensures.to) few in
@@ -17,20 +17,16 @@ returns-clause-one g c =
 
 pub returns-clause-done : goal.returns-clause-done
 returns-clause-done g c =
-    let xs = waits c.deref_mut-2.result.now.line in
+    let xs = waits c.deref_mut.result.now.line in
     let left = waits c.take_first.new.self.line in
-    let first : waits c.deref_mut.result.now.line ≡ xs = search rules in
-    let held-first : Held (waits c.deref_mut.result.now.line) left = search rules in
-    let held : Held xs left = subst (λ ys. Held ys left) first held-first in
+    let held : Held xs left = search rules in
     let is : c.outcome-result.result ≡ record {
       unparked_threads = length (items c.take_first.new.to);
       requeued_threads = 0;
       have_more_threads = any (fits (Key c.args.key)) left;
-      be_fair = c.turn-fair.result;
-    } = search rules in (
-      c.turn-fair.result,
-      one_is_unparked xs left c.deref_mut-2.result.now.apart held c.args.key
-          (λ told token. goal.C-post g c.args.callback told token) c.turn-fair.result (items c.take_first.new.to)
-          c.outcome-result.result c.callback-token.result c.take_first.ensures.left c.take_first.ensures.to is
-          c.callback-token.ensures,
-    )
+      be_fair = c.args.fair;
+    } = search rules in
+    one_is_unparked xs left c.deref_mut.result.now.apart held c.args.key
+        (λ told token. goal.C-post g c.args.callback told token) c.args.fair (items c.take_first.new.to)
+        c.outcome-result.result c.callback-token.result c.take_first.ensures.left c.take_first.ensures.to is
+        c.callback-token.ensures
