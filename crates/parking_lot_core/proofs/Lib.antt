@@ -8,3 +8,4 @@ mod Queues
 mod Requeued
 mod Sifts
 mod Waiters
+pub mod Scratch

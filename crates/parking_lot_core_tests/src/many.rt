@@ -5,11 +5,12 @@ use parking_lot_core::{
     thread_yield, unpark_all, unpark_filter, unpark_one, unpark_requeue,
 };
 use refusing_heap::{Case, Heap, Said, Seen, make_in_turn};
-use std::alloc::{AllocError, Allocator};
+use std::alloc::{AllocError, Allocator, Global};
 use std::sync::Wait;
 use std::sync::atomic::{AtomicUsize, Ordering};
 use std::test::Fail;
 use std::thread;
+use std::thread::Threads;
 use std::time::{Clock, Instant};
 
 /// How many threads sleep, and as many wake them.
@@ -104,17 +105,28 @@ fn takes_part<R: Wait + Clock>(
     }
 }
 
+/// All take part at one time. Answers what each answered.
+fn all_take_part<R: Wait + Threads + Clock + Sync>(
+    rt: &R,
+    alloc: Global,
+    lot: &ParkingLot<R>,
+    over: &AtomicUsize,
+    done: &AtomicUsize,
+) -> Result<Vec<bool>, AllocError> {
+    thread::map_indices(
+        rt,
+        alloc,
+        2 * PAIRS + 1,
+        &|number| takes_part(lot, number, over, done),
+    )
+}
+
 #[test]
 fn none_is_lost_while_buckets_grow(rt: HostRuntime) -> Result<(), Fail> {
     let lot = ParkingLot::new(rt, rt.alloc(), 100, 7)?;
     let over = AtomicUsize::new(0);
     let done = AtomicUsize::new(0);
-    let ended = thread::map_indices(
-        &rt,
-        rt.alloc(),
-        2 * PAIRS + 1,
-        &|number| takes_part(&lot, number, &over, &done),
-    )?;
+    let ended = all_take_part(&rt, rt.alloc(), &lot, &over, &done)?;
     let mut left = 0usize;
     for key in 0..KEYS {
         left = left.wrapping_add(unpark_all(&lot, key, UnparkToken(0)));
@@ -225,23 +237,50 @@ fn are_told(tokens: Result<Vec<Option<UnparkToken>>, AllocError>, told: [usize; 
     are_right
 }
 
-#[test]
-fn neighbouring_lists_stay(rt: HostRuntime) -> Result<(), Fail> {
-    let lot = ParkingLot::new(rt, rt.alloc(), 6, 7)?;
-    let joined = AtomicUsize::new(0);
-    let key = |number: usize| match number {
+/// The key under which a sleeper sleeps.
+fn key_of_sleeper(number: usize) -> usize {
+    match number {
         0 | 1 => 3,
         2 | 3 => 67,
         4 => 4,
         _ => 5,
-    };
-    let sleepers = || thread::map_indices(
-        &rt,
-        rt.alloc(),
+    }
+}
+
+/// Six sleep. Answers what each was told.
+fn six_sleep<R: Wait + Threads + Clock + Sync>(
+    rt: &R,
+    alloc: Global,
+    lot: &ParkingLot<R>,
+    joined: &AtomicUsize,
+) -> Result<Vec<Option<UnparkToken>>, AllocError> {
+    thread::map_indices(
+        rt,
+        alloc,
         6,
-        &|number| sleeps(&lot, &joined, number, key(number)),
-    );
-    let (tokens, wrong) = thread::join(&rt, sleepers, || wrong_step(&lot, &joined));
+        &|number| sleeps(lot, joined, number, key_of_sleeper(number)),
+    )
+}
+
+/// The six sleep while the calls are made. Answers what they were told, and the first step that went wrong.
+fn stepped<R: Wait + Threads + Clock + Sync>(
+    rt: &R,
+    alloc: Global,
+    lot: &ParkingLot<R>,
+    joined: &AtomicUsize,
+) -> (Result<Vec<Option<UnparkToken>>, AllocError>, Option<usize>) {
+    thread::join(
+        rt,
+        || six_sleep(rt, alloc, lot, joined),
+        || wrong_step(lot, joined),
+    )
+}
+
+#[test]
+fn neighbouring_lists_stay(rt: HostRuntime) -> Result<(), Fail> {
+    let lot = ParkingLot::new(rt, rt.alloc(), 6, 7)?;
+    let joined = AtomicUsize::new(0);
+    let (tokens, wrong) = stepped(&rt, rt.alloc(), &lot, &joined);
     let step = wrong.unwrap_or(STEPS.len());
     assert!(rt;
         wrong.is_none() & are_told(tokens, [10, 13, 11, 14, 16, 15]),
