@@ -8,4 +8,3 @@ mod Queues
 mod Requeued
 mod Sifts
 mod Waiters
-pub mod Scratch

@@ -1,5 +1,6 @@
 //! Chains of nodes, which move from one to another. A node is made once, with its participant.
-ghost use Rattle.std.specs.Prelude.{◌≡◌, ◌∷◌, [], IfOk, IfSome, List, true, length, slice_get, slice_set, drop, take, ◌++◌};
+ghost use Rattle.std.specs.Prelude.{◌≡◌, ◌∷◌, [], IfOk, IfSome, List, length, slice_get, slice_set, drop, take};
+ghost use Rattle.std.specs.Prelude.{◌++◌, true};
 ghost use Rattle.parking_lot_core_model.specs.declared.parking.FilterOp.{FilterOp};
 ghost use Rattle.parking_lot_core_model.specs.Results.{Answers, is_stop};
 ghost use Rattle.parking_lot_core_model.specs.Machine.{tokens_of};

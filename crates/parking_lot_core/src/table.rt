@@ -86,12 +86,7 @@ impl<A: Allocator> Table<A> {
 
     /// The same from a level on. Where the bucket has moved it looks again, one level on.
     #[cold]
-    fn lock_from<R: Wait>(
-        &self,
-        rt: &R,
-        level: usize,
-        key: usize,
-    ) -> MutexGuard<'_, Bucket<A>> {
+    fn lock_from<R: Wait>(&self, rt: &R, level: usize, key: usize) -> MutexGuard<'_, Bucket<A>> {
         let mut level = level;
         for _turn in rt.forever() {
             match self.had(rt, level, key) {

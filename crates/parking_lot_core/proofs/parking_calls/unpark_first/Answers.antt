@@ -27,6 +27,6 @@ returns-clause-done g c =
       be_fair = c.args.fair;
     } = search rules in
     one_is_unparked xs left c.deref_mut.result.now.apart held c.args.key
-        (λ told token. goal.C-post g c.args.callback told token) c.args.fair (items c.take_first.new.to)
-        c.outcome-result.result c.callback-token.result c.take_first.ensures.left c.take_first.ensures.to is
-        c.callback-token.ensures
+    (λ told token. goal.C-post g c.args.callback told token) c.args.fair (items c.take_first.new.to)
+    c.outcome-result.result c.callback-token.result c.take_first.ensures.left c.take_first.ensures.to is
+    c.callback-token.ensures

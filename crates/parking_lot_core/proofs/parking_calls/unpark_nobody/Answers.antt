@@ -21,5 +21,5 @@ returns-clause-done g c =
       be_fair = c.args.fair;
     } in
     one_is_unparked xs xs bucket.apart held c.args.key (λ told token. goal.C-post g c.args.callback told token)
-        c.args.fair [] (said false) c.callback.result (nobody ∙ sym (ap (without p) nobody))
-        (sym (ap (λ ys. found p ys ++ []) nobody)) (sym (ap (λ ys. said (any p ys)) nobody)) c.callback.ensures
+    c.args.fair [] (said false) c.callback.result (nobody ∙ sym (ap (without p) nobody))
+    (sym (ap (λ ys. found p ys ++ []) nobody)) (sym (ap (λ ys. said (any p ys)) nobody)) c.callback.ensures

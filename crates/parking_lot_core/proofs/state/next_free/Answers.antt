@@ -1,4 +1,3 @@
-use Rattle.parking_lot_core.proofs.Scratch.{chain-send}
 use Rattle.std.proofs.Common.{◌∙◌, ap, unwrap_or, length, not}
 use Rattle.parking_lot_core_model.proofs.Numbers.{unwrap_or-position}
 use Rattle.parking_lot_core.proofs.state.next_free.Goals as goal
