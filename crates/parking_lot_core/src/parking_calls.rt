@@ -19,7 +19,7 @@ use crate::seat::Seat;
 use crate::stuck::stuck;
 use crate::table::Both;
 use crate::thread_data::ThreadData;
-use crate::under_lock::{collect, enter, give_back, kept_as_found};
+use crate::under_lock::{Found, collect, enter, give_back, kept_as_found};
 use parking_lot_core_model::{
     FilterOp, ParkResult, ParkToken, RequeueOp, UnparkResult, UnparkToken, Waiter,
 };
@@ -147,22 +147,24 @@ pub fn unpark_one<R: Wait, A: Allocator, C: FnOnce(UnparkResult) -> UnparkToken 
     ensures done { (fair : Bool)
         × OnSomeLot (λ k. k == key) (Does (busy key) (UnparksOne fair (C.post callback) key)) result }
 {
-    let mut bucket = lot.table.lock(&lot.rt, key);
+    let (mut bucket, found) = kept_as_found(lot.table.lock(&lot.rt, key));
     let fair = bucket.turn();
     if bucket.is_empty() {
-        return unpark_nobody(bucket, key, fair, callback);
+        return unpark_nobody(bucket, found, key, fair, callback);
     }
-    unpark_first(lot, bucket, key, fair, callback)
+    unpark_first(lot, bucket, found, key, fair, callback)
 }
 
 /// Gives a bucket's lock back, in which nobody waits.
 #[inline(always)]
 fn unpark_nobody<A: Allocator, C: FnOnce(UnparkResult) -> UnparkToken + Drop>(
     bucket: MutexGuard<'_, Bucket<A>>,
+    found: Found<A>,
     key: usize,
     fair: bool,
     callback: C,
 ) -> UnparkResult
+    requires found { waits found.bucket.value.line ≡ waits (mutex_guard_value bucket).line }
     requires nobody { waits (mutex_guard_value bucket).line ≡ [] }
     requires callback { C.IsAlwaysCallable callback }
     ensures told { (token : UnparkToken) × C.post callback result token }
@@ -170,7 +172,6 @@ fn unpark_nobody<A: Allocator, C: FnOnce(UnparkResult) -> UnparkToken + Drop>(
     ensures moved { result.requeued_threads ≡ 0 }
     ensures done { OnSomeLot (λ k. k == key) (Does (busy key) (UnparksOne fair (C.post callback) key)) result }
 {
-    let (bucket, found) = kept_as_found(bucket);
     let result = UnparkResult {
         unparked_threads: 0,
         requeued_threads: 0,
@@ -187,18 +188,19 @@ fn unpark_nobody<A: Allocator, C: FnOnce(UnparkResult) -> UnparkToken + Drop>(
 #[inline(never)]
 fn unpark_first<R: Wait, A: Allocator, C: FnOnce(UnparkResult) -> UnparkToken + Drop>(
     lot: &ParkingLot<R, A>,
-    bucket: MutexGuard<'_, Bucket<A>>,
+    mut bucket: MutexGuard<'_, Bucket<A>>,
+    found: Found<A>,
     key: usize,
     fair: bool,
     callback: C,
 ) -> UnparkResult
-    requires { C.IsAlwaysCallable callback }
+    requires found { waits found.bucket.value.line ≡ waits (mutex_guard_value bucket).line }
+    requires callback { C.IsAlwaysCallable callback }
     ensures told { (token : UnparkToken) × C.post callback result token }
     ensures one { result.unparked_threads ≤ 1 }
     ensures moved { result.requeued_threads ≡ 0 }
     ensures done { OnSomeLot (λ k. k == key) (Does (busy key) (UnparksOne fair (C.post callback) key)) result }
 {
-    let (mut bucket, found) = kept_as_found(bucket);
     let mut taken = Chain::Nil;
     bucket.take_first(Wanted::Key(key), &mut taken);
     let result = outcome(lot, &bucket, key, &taken, &Chain::Nil, fair);

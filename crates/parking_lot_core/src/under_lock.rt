@@ -19,7 +19,7 @@ use std::sync::{MutexGuard, Wait};
 /// What was found under a bucket's lock, for proofs alone. None is made but here, where the lock was had.
 #[derive(Drop)]
 pub(crate) struct Found<A: Allocator> {
-    bucket: Snapshot<Bucket<A>>,
+    pub bucket: Snapshot<Bucket<A>>,
 }
 
 /// Waits for the lock of a key's bucket.
