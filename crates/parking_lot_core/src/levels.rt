@@ -1,39 +1,37 @@
 //! Rows that grow under threads: each level has twice as many as the one before, is made once, and never moves.
-ghost use Rattle.std.specs.Prelude.{◌≡◌};
-
+//!
+//! They are functions over plain vectors: that a lot may be shared by threads is found by a search through its type at
+//! each call that shares it, and each struct on the way makes that search longer.
 use std::alloc::{AllocError, Allocator};
 use std::sync::OnceLock;
 
-/// Rows, by levels.
-#[derive(Drop)]
-pub(crate) struct Levels<T: Drop, A: Allocator> {
-    levels: Vec<OnceLock<Vec<T, A>>, A>,
+/// No rows, of so many levels at most.
+pub(crate) fn none_made<T: Drop, A: Allocator>(
+    alloc: A,
+    count: usize,
+) -> Result<Vec<OnceLock<Vec<T, A>>, A>, AllocError> {
+    let mut levels = Vec::with_capacity(alloc, count)?;
+    for _ in 0..count {
+        levels.push(OnceLock::new())?;
+    }
+    Ok(levels)
 }
 
-impl<T: Drop, A: Allocator> Levels<T, A> {
-    /// No rows, of so many levels at most.
-    pub fn new(alloc: A, count: usize) -> Result<Levels<T, A>, AllocError> {
-        let mut levels = Vec::with_capacity(alloc, count)?;
-        for _ in 0..count {
-            levels.push(OnceLock::new())?;
-        }
-        Ok(Levels { levels })
-    }
+/// The rows of a level, where they were made.
+pub(crate) fn rows<T: Drop, A: Allocator>(
+    levels: &[OnceLock<Vec<T, A>>],
+    level: usize,
+) -> Option<&[T]> {
+    Some(levels.get(level)?.get()?)
+}
 
-    /// The rows of a level, where they were made.
-    pub fn rows(&self, level: usize) -> Option<&[T]> {
-        Some(self.levels.get(level)?.get()?)
-    }
-
-    /// Keeps the rows of a level, where there are none yet.
-    pub fn keep(&self, level: usize, rows: Vec<T, A>) {
-        if let Some(place) = self.levels.get(level) {
-            let _ = place.try_set(rows);
-        }
-    }
-
-    /// What its memory is taken from.
-    pub fn allocator(&self) -> &A {
-        self.levels.allocator()
+/// Keeps the rows of a level, where there are none yet.
+pub(crate) fn keep<T: Drop, A: Allocator>(
+    levels: &[OnceLock<Vec<T, A>>],
+    level: usize,
+    rows: Vec<T, A>,
+) {
+    if let Some(place) = levels.get(level) {
+        let _ = place.try_set(rows);
     }
 }

@@ -4,13 +4,12 @@ ghost use Rattle.std.specs.Sync.Mutex.{mutex_guard_value};
 ghost use Rattle.parking_lot_core.specs.Waits.{items};
 
 use crate::chain::Chain;
-use crate::levels::Levels;
+use crate::levels::{keep, none_made, rows};
 use crate::thread_parker::{Timed, time_left};
-use crossbeam_utils::CachePadded;
 use parking_lot_core_model::{DEFAULT_UNPARK_TOKEN, UnparkToken};
 use std::alloc::{AllocError, Allocator};
 use std::sync::atomic::{AtomicUsize, Ordering};
-use std::sync::{Condvar, CondvarTimeouts, Mutex, MutexGuard, Wait};
+use std::sync::{Condvar, CondvarTimeouts, Mutex, MutexGuard, OnceLock, Wait};
 use std::time::{Clock, Instant};
 
 /// How many seats the first level has, and what their number is divided by.
@@ -38,7 +37,7 @@ pub(crate) struct Told<A: Allocator> {
 /// The seats of a lot, by the numbers of its threads.
 #[derive(Drop)]
 pub(crate) struct Seats<A: Allocator> {
-    levels: Levels<CachePadded<Seat<A>>, A>,
+    levels: Vec<OnceLock<Vec<Seat<A>, A>>, A>,
 }
 
 impl<A: Allocator> Seat<A> {
@@ -125,7 +124,7 @@ impl<A: Allocator> Seats<A> {
     /// The seat of a thread, where it was made.
     pub fn at(&self, thread: usize) -> Option<&Seat<A>> {
         let (level, place) = spot(thread);
-        Some(self.levels.rows(level)?.get(place)?)
+        Some(rows(&self.levels, level)?.get(place)?)
     }
 }
 
@@ -133,14 +132,14 @@ impl<A: Allocator + Clone> Seats<A> {
     /// No seats.
     pub fn new(alloc: A) -> Result<Seats<A>, AllocError> {
         Ok(Seats {
-            levels: Levels::new(alloc, LEVELS)?,
+            levels: none_made(alloc, LEVELS)?,
         })
     }
 
     /// Makes the seat of a thread, where there is none.
     pub fn make(&self, thread: usize) -> Result<(), AllocError> {
         let (level, _) = spot(thread);
-        if self.levels.rows(level).is_some() {
+        if rows(&self.levels, level).is_some() {
             return Ok(());
         }
         let alloc = self.levels.allocator().clone()?;
@@ -148,9 +147,9 @@ impl<A: Allocator + Clone> Seats<A> {
         let count = FIRST_COUNT << level.min(LEVELS);
         seats.reserve(count)?;
         for _ in 0..count {
-            seats.push(CachePadded::new(Seat::new()))?;
+            seats.push(Seat::new())?;
         }
-        self.levels.keep(level, seats);
+        keep(&self.levels, level, seats);
         Ok(())
     }
 }

@@ -2,12 +2,11 @@
 ghost use Rattle.std.specs.Prelude.{◌≡◌};
 
 use crate::bucket::Bucket;
-use crate::levels::Levels;
+use crate::levels::{keep, none_made, rows};
 use crate::stuck::stuck;
-use crossbeam_utils::CachePadded;
 use std::alloc::{AllocError, Allocator};
 use std::sync::atomic::{AtomicUsize, Ordering};
-use std::sync::{Mutex, MutexGuard, Wait};
+use std::sync::{Mutex, MutexGuard, OnceLock, Wait};
 
 /// How many buckets there are at first.
 const FIRST_COUNT: usize = 16;
@@ -16,7 +15,7 @@ const FIRST_COUNT: usize = 16;
 const LEVELS: usize = 15;
 
 /// A bucket, under its lock.
-type Locked<A> = CachePadded<Mutex<Bucket<A>>>;
+type Locked<A> = Mutex<Bucket<A>>;
 
 /// All buckets of a level.
 pub(crate) type Buckets<A> = Vec<Locked<A>, A>;
@@ -24,7 +23,7 @@ pub(crate) type Buckets<A> = Vec<Locked<A>, A>;
 /// The buckets. Each level has them all; those of an earlier one have moved to the next, or are about to.
 #[derive(Drop)]
 pub(crate) struct Table<A: Allocator> {
-    levels: Levels<Locked<A>, A>,
+    levels: Vec<OnceLock<Buckets<A>>, A>,
     /// The last level whose buckets all have their waiters.
     level: AtomicUsize,
 }
@@ -46,7 +45,7 @@ struct Spot {
 impl<A: Allocator> Table<A> {
     /// The bucket of a key on a level.
     fn bucket(&self, level: usize, key: usize) -> Option<&Mutex<Bucket<A>>> {
-        let buckets = self.levels.rows(level)?;
+        let buckets = rows(&self.levels, level)?;
         Some(buckets.get(place(key, buckets.len())?)?)
     }
 
@@ -105,7 +104,7 @@ impl<A: Allocator> Table<A> {
 
     /// Where the bucket of a key on a level stands.
     fn spot(&self, level: usize, key: usize) -> Option<Spot> {
-        let bucket = place(key, self.levels.rows(level)?.len())?;
+        let bucket = place(key, rows(&self.levels, level)?.len())?;
         Some(Spot { level, bucket })
     }
 
@@ -162,8 +161,8 @@ impl<A: Allocator> Table<A> {
     pub fn grow<R: Wait>(&self, rt: &R, buckets: Buckets<A>) {
         let level = self.level.load(Ordering::SeqCst);
         let next = level.wrapping_add(1);
-        self.levels.keep(next, buckets);
-        if let (Some(old), Some(new)) = (self.levels.rows(level), self.levels.rows(next)) {
+        keep(&self.levels, next, buckets);
+        if let (Some(old), Some(new)) = (rows(&self.levels, level), rows(&self.levels, next)) {
             for bucket in 0..old.len() {
                 move_bucket(rt, old, new, bucket);
             }
@@ -175,8 +174,8 @@ impl<A: Allocator> Table<A> {
 impl<A: Allocator + Clone> Table<A> {
     /// The first buckets.
     pub fn new(alloc: A) -> Result<Table<A>, AllocError> {
-        let levels = Levels::new(alloc.clone()?, LEVELS)?;
-        levels.keep(0, empty(alloc, FIRST_COUNT)?);
+        let levels = none_made(alloc.clone()?, LEVELS)?;
+        keep(&levels, 0, empty(alloc, FIRST_COUNT)?);
         Ok(Table {
             levels,
             level: AtomicUsize::new(0),
@@ -186,7 +185,7 @@ impl<A: Allocator + Clone> Table<A> {
     /// The buckets that there are to be for so many threads, if they are more than now.
     pub fn wanted(&self, threads: usize) -> Result<Option<Buckets<A>>, AllocError> {
         let level = self.level.load(Ordering::SeqCst);
-        let count = self.levels.rows(level).map_or(0, |buckets| buckets.len());
+        let count = rows(&self.levels, level).map_or(0, |buckets| buckets.len());
         if threads.saturating_mul(3) <= count {
             return Ok(None);
         }
@@ -212,7 +211,7 @@ fn place(key: usize, count: usize) -> Option<usize> {
 fn empty<A: Allocator>(alloc: A, count: usize) -> Result<Buckets<A>, AllocError> {
     let mut buckets = Vec::with_capacity(alloc, count)?;
     for _ in 0..count {
-        buckets.push(CachePadded::new(Mutex::new(Bucket::new())))?;
+        buckets.push(Mutex::new(Bucket::new()))?;
     }
     Ok(buckets)
 }
