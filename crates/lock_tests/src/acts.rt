@@ -30,6 +30,16 @@ macro_rules! store {
     };
 }
 
+/// Sleeps in the list with this token.
+macro_rules! append {
+    ($token:expr) => {
+        parking_lot_protocol::Act::Section(parking_lot_protocol::SectionAct::Append(
+            parking_lot_core::ParkToken($token),
+        ))
+    };
+}
+
+pub(crate) use append;
 pub(crate) use change;
 pub(crate) use store;
 pub(crate) use took;

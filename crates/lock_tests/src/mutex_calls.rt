@@ -1,48 +1,44 @@
 //! Calls at a mutex, told what they see.
 
-use crate::acts::{change, took};
-use crate::script::follow_mutex;
+use crate::acts::{change, store, took};
+use crate::script::{CHECK, LEAVE, LOADS, OWNED, REFUSED, WAKES_AND_RELEASES, follow, follow_load};
 use parking_lot_core::DEFAULT_PARK_TOKEN;
-use parking_lot_protocol::{
-    Act, ActResult, CoreAnswer, HAND_OVER, MutexCore, SectionAct, TRY_AGAIN,
-};
+use parking_lot_protocol::{Act, ActResult, HAND_OVER, MutexCore, SectionAct, TRY_AGAIN};
 use std::process::Abort;
 
 #[test]
 fn a_locker_sleeps_and_tries_again(rt: HostRuntime) {
-    follow_mutex(
+    let sleeps = SectionAct::Append(DEFAULT_PARK_TOKEN);
+    follow(
         &rt,
         MutexCore::lock(),
         &[
-            (ActResult::Start, Act::Load),
+            LOADS,
             (ActResult::Word(0), Act::Exchange(0, 1)),
             (ActResult::Word(1), Act::Spin),
             (ActResult::Spun(false), Act::Exchange(1, 3)),
             (ActResult::Exchanged, Act::Enter(0)),
-            (ActResult::Entered, Act::Section(SectionAct::Check)),
-            (
-                ActResult::Word(3),
-                Act::Section(SectionAct::Append(DEFAULT_PARK_TOKEN)),
-            ),
-            (ActResult::Made, Act::Section(SectionAct::Leave)),
+            (ActResult::Entered, CHECK),
+            (ActResult::Word(3), Act::Section(sleeps)),
+            (ActResult::Made, LEAVE),
             (ActResult::Made, Act::Sleep),
             (ActResult::Woken(TRY_AGAIN), Act::Load),
             (ActResult::Word(2), Act::Exchange(2, 3)),
-            (ActResult::Exchanged, Act::Done(CoreAnswer::Owned)),
+            (ActResult::Exchanged, OWNED),
         ],
     );
 }
 
 #[test]
 fn an_invalid_sleep_is_left(rt: HostRuntime) {
-    follow_mutex(
+    follow(
         &rt,
         MutexCore::lock(),
         &[
-            (ActResult::Start, Act::Load),
+            LOADS,
             (ActResult::Word(3), Act::Enter(0)),
-            (ActResult::Entered, Act::Section(SectionAct::Check)),
-            (ActResult::Word(2), Act::Section(SectionAct::Leave)),
+            (ActResult::Entered, CHECK),
+            (ActResult::Word(2), LEAVE),
             (ActResult::Made, Act::Load),
         ],
     );
@@ -50,7 +46,7 @@ fn an_invalid_sleep_is_left(rt: HostRuntime) {
 
 /// A release with one waiter taken and another left, to its end.
 fn release(rt: &impl Abort, core: MutexCore, plain: u64, fair: bool, hands: bool) {
-    let core = follow_mutex(
+    let core = follow(
         rt,
         core,
         &[
@@ -62,27 +58,17 @@ fn release(rt: &impl Abort, core: MutexCore, plain: u64, fair: bool, hands: bool
     let token = Some(DEFAULT_PARK_TOKEN);
     let plain = change!(0, plain);
     let fairly = change!(0, 3);
-    let store = SectionAct::Store {
-        plain,
-        fair: fairly,
-    };
-    let core = follow_mutex(
+    let store = store!(plain, fairly);
+    let core = follow(
         rt,
         core,
         &[
             (took!(token, true), Act::Section(store)),
-            (ActResult::Stored { fair }, Act::Section(SectionAct::Leave)),
+            (ActResult::Stored { fair }, LEAVE),
         ],
     );
     assert!(rt; (core.wake_token() == HAND_OVER) == hands);
-    follow_mutex(
-        rt,
-        core,
-        &[
-            (ActResult::Made, Act::Section(SectionAct::Wake)),
-            (ActResult::Made, Act::Done(CoreAnswer::Released)),
-        ],
-    );
+    follow(rt, core, WAKES_AND_RELEASES);
 }
 
 #[test]
@@ -94,31 +80,17 @@ fn releases_are_plain_or_fair(rt: HostRuntime) {
 
 #[test]
 fn tries_and_bumps(rt: HostRuntime) {
-    follow_mutex(
-        &rt,
-        MutexCore::try_lock(),
-        &[
-            (ActResult::Start, Act::Load),
-            (ActResult::Word(3), Act::Done(CoreAnswer::Refused)),
-        ],
-    );
-    follow_mutex(
+    follow_load(&rt, MutexCore::try_lock(), 3, REFUSED);
+    follow_load(&rt, MutexCore::bump(), 1, OWNED);
+    follow(
         &rt,
         MutexCore::bump(),
         &[
-            (ActResult::Start, Act::Load),
-            (ActResult::Word(1), Act::Done(CoreAnswer::Owned)),
-        ],
-    );
-    follow_mutex(
-        &rt,
-        MutexCore::bump(),
-        &[
-            (ActResult::Start, Act::Load),
+            LOADS,
             (ActResult::Word(3), Act::Exchange(1, 0)),
             (ActResult::Exchanged, Act::Load),
             (ActResult::Word(0), Act::Exchange(0, 1)),
-            (ActResult::Exchanged, Act::Done(CoreAnswer::Owned)),
+            (ActResult::Exchanged, OWNED),
         ],
     );
 }

@@ -1,6 +1,7 @@
 //! Words of the worked example: a reader and a pending writer that sleeps, then the writer alone; and of waiters behind
 //! an upgradable owner.
 
+use crate::acts::took;
 use parking_lot_protocol::word::{
     is_exclusive, is_held, is_parked, is_upgradable, is_writer_parked, is_written, readers,
 };
@@ -13,10 +14,7 @@ fn kept_by_the_last_reader() -> u64 {
     let _ = core.next(ActResult::Start);
     let _ = core.next(ActResult::Before(26));
     let _ = core.next(ActResult::Entered);
-    let act = core.next(ActResult::Took {
-        token: None,
-        left: false,
-    });
+    let act = core.next(took!(None, false));
     if let Act::FetchAnd(keep) = act {
         keep
     } else {
@@ -31,10 +29,7 @@ fn stored_by_a_downgrade() -> WordChange {
     let _ = core.next(ActResult::Start);
     let _ = core.next(ActResult::Before(9));
     let _ = core.next(ActResult::Entered);
-    let act = core.next(ActResult::Took {
-        token: None,
-        left: false,
-    });
+    let act = core.next(took!(None, false));
     if let Act::Section(SectionAct::Store { plain, .. }) = act {
         plain
     } else {

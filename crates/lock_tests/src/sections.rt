@@ -1,8 +1,9 @@
 //! Waking sections of an exclusive release, by the tokens in the list: whom they take, and what they store.
 
-use crate::script::follow_rw;
+use crate::acts::{change, store, took};
+use crate::script::follow;
 use parking_lot_core::{FilterOp, ParkToken};
-use parking_lot_protocol::{Act, ActResult, RwCore, SectionAct, WordChange, wake_sum};
+use parking_lot_protocol::{Act, ActResult, RwCore, SectionAct, wake_sum};
 use std::process::Abort;
 
 /// One section with these waiters takes this sum of tokens, and has these two stores.
@@ -11,7 +12,7 @@ fn section(rt: &impl Abort, waiters: &[usize], sum: u64, plain: u64, fair: u64) 
         (ActResult::Start, Act::Exchange(8, 0)),
         (ActResult::Word(9), Act::Enter(0)),
     ];
-    let mut core = follow_rw(rt, RwCore::unlock_exclusive(), &begun);
+    let mut core = follow(rt, RwCore::unlock_exclusive(), &begun);
     let mut act = core.next(ActResult::Entered);
     let mut so_far = 0u64;
     let mut waiting = waiters.len();
@@ -21,25 +22,14 @@ fn section(rt: &impl Abort, waiters: &[usize], sum: u64, plain: u64, fair: u64) 
             && wake_sum(so_far, token) == FilterOp::Unpark
         {
             waiting = waiting.saturating_sub(1);
-            act = core.next(ActResult::Took {
-                token: Some(token),
-                left: waiting > 0,
-            });
+            act = core.next(took!(Some(token), waiting > 0));
             so_far = so_far.wrapping_add(*number as u64);
         }
     }
     if act == Act::Section(SectionAct::TakeNext(so_far)) {
-        act = core.next(ActResult::Took {
-            token: None,
-            left: waiting > 0,
-        });
+        act = core.next(took!(None, waiting > 0));
     }
-    let plain = WordChange {
-        keep: 0,
-        add: plain,
-    };
-    let fair = WordChange { keep: 0, add: fair };
-    let store = Act::Section(SectionAct::Store { plain, fair });
+    let store = Act::Section(store!(change!(0, plain), change!(0, fair)));
     assert!(rt; (so_far == sum) & (act == store));
 }
 

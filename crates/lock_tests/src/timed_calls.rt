@@ -1,9 +1,9 @@
 //! Calls that may give up, told what they see.
 
-use crate::script::follow_in_time;
-use parking_lot_core::ParkToken;
+use crate::acts::append;
+use crate::script::{CHECK, LEAVE, OWNED, follow_in_time};
 use parking_lot_protocol::timed::{TimedAct, TimedSeen};
-use parking_lot_protocol::{Act, ActResult, CoreAnswer, HAND_OVER, SectionAct};
+use parking_lot_protocol::{Act, ActResult, HAND_OVER};
 use parking_lot_protocol_rw::timed::TimedRwCore;
 use std::process::Abort;
 
@@ -22,12 +22,9 @@ fn expires(rt: &impl Abort) -> TimedRwCore {
         &[
             plain!(ActResult::Start, Act::Load),
             plain!(ActResult::Word(9), Act::Enter(0)),
-            plain!(ActResult::Entered, Act::Section(SectionAct::Check)),
-            plain!(
-                ActResult::Word(9),
-                Act::Section(SectionAct::Append(ParkToken(16)))
-            ),
-            plain!(ActResult::Made, Act::Section(SectionAct::Leave)),
+            plain!(ActResult::Entered, CHECK),
+            plain!(ActResult::Word(9), append!(16)),
+            plain!(ActResult::Made, LEAVE),
             plain!(ActResult::Made, Act::Sleep),
             (TimedSeen::Expired, TimedAct::Reenters),
             (TimedSeen::Reentered, TimedAct::TakesItself),
@@ -37,20 +34,18 @@ fn expires(rt: &impl Abort) -> TimedRwCore {
 
 #[test]
 fn the_last_that_gives_up_masks_the_parked_bit(rt: HostRuntime) {
-    let last = expires(&rt);
     follow_in_time(
         &rt,
-        last,
+        expires(&rt),
         &[
             (TimedSeen::Quit { last: true }, TimedAct::Masks),
             (TimedSeen::Masked, TimedAct::Leaves),
             (TimedSeen::Left, TimedAct::GivesUp),
         ],
     );
-    let one_of_several = expires(&rt);
     follow_in_time(
         &rt,
-        one_of_several,
+        expires(&rt),
         &[
             (TimedSeen::Quit { last: false }, TimedAct::Leaves),
             (TimedSeen::Left, TimedAct::GivesUp),
@@ -60,24 +55,19 @@ fn the_last_that_gives_up_masks_the_parked_bit(rt: HostRuntime) {
 
 #[test]
 fn one_that_another_took_goes_on(rt: HostRuntime) {
-    let taken = expires(&rt);
     follow_in_time(
         &rt,
-        taken,
+        expires(&rt),
         &[
             (TimedSeen::WasTaken(HAND_OVER), TimedAct::Leaves),
-            (
-                TimedSeen::Left,
-                TimedAct::Makes(Act::Done(CoreAnswer::Owned)),
-            ),
+            (TimedSeen::Left, TimedAct::Makes(OWNED)),
         ],
     );
 }
 
 /// A call that waits for readers to leave, and its moment passes as it sleeps.
 fn gives_up_pending(rt: &impl Abort, core: TimedRwCore, lines: &[(TimedSeen, TimedAct)]) {
-    let pending = follow_in_time(rt, core, lines);
-    let mut core = pending;
+    let mut core = follow_in_time(rt, core, lines);
     for _round in 0..10 {
         core = follow_in_time(
             rt,
@@ -94,12 +84,9 @@ fn gives_up_pending(rt: &impl Abort, core: TimedRwCore, lines: &[(TimedSeen, Tim
         &[
             plain!(ActResult::Word(24), Act::Exchange(24, 26)),
             plain!(ActResult::Exchanged, Act::Enter(1)),
-            plain!(ActResult::Entered, Act::Section(SectionAct::Check)),
-            plain!(
-                ActResult::Word(26),
-                Act::Section(SectionAct::Append(ParkToken(8)))
-            ),
-            plain!(ActResult::Made, Act::Section(SectionAct::Leave)),
+            plain!(ActResult::Entered, CHECK),
+            plain!(ActResult::Word(26), append!(8)),
+            plain!(ActResult::Made, LEAVE),
             plain!(ActResult::Made, Act::Sleep),
             (TimedSeen::Expired, TimedAct::Reenters),
             (TimedSeen::Reentered, TimedAct::TakesItself),

@@ -1,9 +1,12 @@
 //! Calls of upgradable holds, told what they see.
 
-use crate::acts::{change, store, took};
-use crate::script::{LAST_READER_WAKES, follow_upgrade as follow};
+use crate::acts::{append, change, store, took};
+use crate::script::{
+    CHECK, LAST_READER_WAKES, LEAVE, LOADS, OWNED, REFUSED, RELEASED, WAKE, follow, follow_load,
+    spin_beside_a_reader, try_in_vain,
+};
 use parking_lot_core::ParkToken;
-use parking_lot_protocol::{Act, ActResult, CoreAnswer, HAND_OVER, SectionAct, TRY_AGAIN};
+use parking_lot_protocol::{Act, ActResult, HAND_OVER, SectionAct, TRY_AGAIN};
 use parking_lot_protocol_rw::UpgradeCore;
 
 /// Minus so much, modulo 2^64.
@@ -17,9 +20,9 @@ fn an_upgradable_owner_comes_in_beside_a_reader(rt: HostRuntime) {
         &rt,
         UpgradeCore::lock(),
         &[
-            (ActResult::Start, Act::Load),
+            LOADS,
             (ActResult::Word(16), Act::Exchange(16, 36)),
-            (ActResult::Exchanged, Act::Done(CoreAnswer::Owned)),
+            (ActResult::Exchanged, OWNED),
         ],
     );
 }
@@ -30,19 +33,16 @@ fn one_that_asks_sleeps_and_is_handed_the_lock(rt: HostRuntime) {
         &rt,
         UpgradeCore::lock(),
         &[
-            (ActResult::Start, Act::Load),
+            LOADS,
             (ActResult::Word(20), Act::Spin),
             (ActResult::Spun(false), Act::Load),
             (ActResult::Word(20), Act::Exchange(20, 21)),
             (ActResult::Exchanged, Act::Enter(0)),
-            (ActResult::Entered, Act::Section(SectionAct::Check)),
-            (
-                ActResult::Word(21),
-                Act::Section(SectionAct::Append(ParkToken(20))),
-            ),
-            (ActResult::Made, Act::Section(SectionAct::Leave)),
+            (ActResult::Entered, CHECK),
+            (ActResult::Word(21), append!(20)),
+            (ActResult::Made, LEAVE),
             (ActResult::Made, Act::Sleep),
-            (ActResult::Woken(HAND_OVER), Act::Done(CoreAnswer::Owned)),
+            (ActResult::Woken(HAND_OVER), OWNED),
         ],
     );
 }
@@ -57,16 +57,13 @@ fn a_fair_release_hands_over_to_those_that_fit(rt: HostRuntime) {
         &rt,
         UpgradeCore::unlock_fair(),
         &[
-            (ActResult::Start, Act::Load),
+            LOADS,
             (ActResult::Word(21), Act::Enter(0)),
             (ActResult::Entered, Act::Section(SectionAct::TakeNext(0))),
             (took!(first, true), Act::Section(SectionAct::TakeNext(20))),
             (took!(third, true), Act::Section(SectionAct::TakeNext(36))),
             (took!(None, true), Act::Section(store)),
-            (
-                ActResult::Stored { fair: false },
-                Act::Section(SectionAct::Leave),
-            ),
+            (ActResult::Stored { fair: false }, LEAVE),
         ],
     );
     assert!(rt; (change.of(21) == 37) & (core.wake_token() == HAND_OVER));
@@ -74,9 +71,9 @@ fn a_fair_release_hands_over_to_those_that_fit(rt: HostRuntime) {
         &rt,
         core,
         &[
-            (ActResult::Made, Act::Section(SectionAct::Wake)),
-            (ActResult::Made, Act::Section(SectionAct::Wake)),
-            (ActResult::Made, Act::Done(CoreAnswer::Released)),
+            (ActResult::Made, WAKE),
+            (ActResult::Made, WAKE),
+            (ActResult::Made, RELEASED),
         ],
     );
 }
@@ -90,18 +87,12 @@ fn a_plain_release_tells_them_to_try_again(rt: HostRuntime) {
         &rt,
         UpgradeCore::unlock(),
         &[
-            (ActResult::Start, Act::Load),
+            LOADS,
             (ActResult::Word(36), Act::Exchange(36, 16)),
             (ActResult::Word(37), Act::Enter(0)),
             (ActResult::Entered, Act::Section(SectionAct::TakeNext(0))),
-            (
-                took!(token, false),
-                Act::Section(SectionAct::Store { plain, fair }),
-            ),
-            (
-                ActResult::Stored { fair: false },
-                Act::Section(SectionAct::Leave),
-            ),
+            (took!(token, false), Act::Section(store!(plain, fair))),
+            (ActResult::Stored { fair: false }, LEAVE),
         ],
     );
     let are_right = (plain.of(37) == 16) & (fair.of(37) == 24);
@@ -110,7 +101,7 @@ fn a_plain_release_tells_them_to_try_again(rt: HostRuntime) {
 
 #[test]
 fn an_upgrade_waits_for_the_readers(rt: HostRuntime) {
-    let mut core = follow(
+    let core = follow(
         &rt,
         UpgradeCore::upgrade(),
         &[
@@ -118,17 +109,7 @@ fn an_upgrade_waits_for_the_readers(rt: HostRuntime) {
             (ActResult::Before(36), Act::Load),
         ],
     );
-    for _round in 0..10 {
-        core = follow(
-            &rt,
-            core,
-            &[
-                (ActResult::Word(24), Act::Spin),
-                (ActResult::Spun(true), Act::Load),
-            ],
-        );
-    }
-    follow(&rt, core, LAST_READER_WAKES);
+    follow(&rt, spin_beside_a_reader(&rt, core), LAST_READER_WAKES);
 }
 
 #[test]
@@ -142,14 +123,11 @@ fn conversions_owe_sleepers_a_look(rt: HostRuntime) {
             (ActResult::Entered, Act::Section(SectionAct::TakeNext(16))),
         ],
     );
-    follow(
-        &rt,
-        UpgradeCore::downgrade(),
-        &[
-            (ActResult::Start, Act::Add(less(4))),
-            (ActResult::Before(20), Act::Done(CoreAnswer::Owned)),
-        ],
-    );
+    let alone = [
+        (ActResult::Start, Act::Add(less(4))),
+        (ActResult::Before(20), OWNED),
+    ];
+    follow(&rt, UpgradeCore::downgrade(), &alone);
     let token = Some(ParkToken(16));
     let keep = change!(u64::MAX - 1, 0);
     let store = store!(keep, keep);
@@ -161,12 +139,9 @@ fn conversions_owe_sleepers_a_look(rt: HostRuntime) {
             (ActResult::Before(9), Act::Enter(0)),
             (ActResult::Entered, Act::Section(SectionAct::TakeNext(20))),
             (took!(token, false), Act::Section(store)),
-            (
-                ActResult::Stored { fair: true },
-                Act::Section(SectionAct::Leave),
-            ),
-            (ActResult::Made, Act::Section(SectionAct::Wake)),
-            (ActResult::Made, Act::Done(CoreAnswer::Owned)),
+            (ActResult::Stored { fair: true }, LEAVE),
+            (ActResult::Made, WAKE),
+            (ActResult::Made, OWNED),
         ],
     );
 }
@@ -174,57 +149,24 @@ fn conversions_owe_sleepers_a_look(rt: HostRuntime) {
 #[test]
 fn tries_are_refused(rt: HostRuntime) {
     for word in [8, 20, 26] {
-        follow(
-            &rt,
-            UpgradeCore::try_lock(),
-            &[
-                (ActResult::Start, Act::Load),
-                (ActResult::Word(word), Act::Done(CoreAnswer::Refused)),
-            ],
-        );
+        follow_load(&rt, UpgradeCore::try_lock(), word, REFUSED);
     }
+    follow_load(&rt, UpgradeCore::try_upgrade(), 36, REFUSED);
     follow(
         &rt,
         UpgradeCore::try_upgrade(),
         &[
-            (ActResult::Start, Act::Load),
-            (ActResult::Word(36), Act::Done(CoreAnswer::Refused)),
-        ],
-    );
-    follow(
-        &rt,
-        UpgradeCore::try_upgrade(),
-        &[
-            (ActResult::Start, Act::Load),
+            LOADS,
             (ActResult::Word(21), Act::Exchange(21, 9)),
-            (ActResult::Exchanged, Act::Done(CoreAnswer::Owned)),
+            (ActResult::Exchanged, OWNED),
         ],
     );
-    let mut unlucky = follow(
-        &rt,
-        UpgradeCore::try_lock(),
-        &[(ActResult::Start, Act::Load)],
-    );
-    for _try in 0..64 {
-        unlucky = follow(&rt, unlucky, &[(ActResult::Word(0), Act::Exchange(0, 20))]);
-    }
-    follow(
-        &rt,
-        unlucky,
-        &[(ActResult::Word(0), Act::Done(CoreAnswer::Refused))],
-    );
+    try_in_vain(&rt, UpgradeCore::try_lock(), 20);
 }
 
 #[test]
 fn a_bump_lets_sleepers_go_first(rt: HostRuntime) {
-    follow(
-        &rt,
-        UpgradeCore::bump(),
-        &[
-            (ActResult::Start, Act::Load),
-            (ActResult::Word(36), Act::Done(CoreAnswer::Owned)),
-        ],
-    );
+    follow_load(&rt, UpgradeCore::bump(), 36, OWNED);
     let token = None;
     let change = change!(u64::MAX - 1, less(20));
     let store = store!(change, change);
@@ -232,14 +174,11 @@ fn a_bump_lets_sleepers_go_first(rt: HostRuntime) {
         &rt,
         UpgradeCore::bump(),
         &[
-            (ActResult::Start, Act::Load),
+            LOADS,
             (ActResult::Word(21), Act::Enter(0)),
             (ActResult::Entered, Act::Section(SectionAct::TakeNext(0))),
             (took!(token, false), Act::Section(store)),
-            (
-                ActResult::Stored { fair: false },
-                Act::Section(SectionAct::Leave),
-            ),
+            (ActResult::Stored { fair: false }, LEAVE),
             (ActResult::Made, Act::Load),
             (ActResult::Word(0), Act::Load),
             (ActResult::Word(0), Act::Exchange(0, 20)),
