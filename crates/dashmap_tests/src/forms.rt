@@ -36,7 +36,86 @@ fn fills<R: Wait>(map: &Shared<'_, '_, R>, me: &mut ThreadData<Global>) -> bool 
     right
 }
 
-/// On so many shards, with so many threads' data: whether each form does what calls one by one do.
+/// How many pairs a form visits with these threads' data, and what keys and values add up to.
+fn visited<R: Wait + Threads + Sync>(
+    rt: &R,
+    map: &Shared<'_, '_, R>,
+    tds: &mut [ThreadData<Global>],
+) -> Option<(u64, u64)> {
+    let (visits, sum) = (AtomicU64::new(0), AtomicU64::new(0));
+    match map.par_iter(tds) {
+        Ok(pairs) => pairs.for_each(rt, |key: &u64, value: &u64| {
+            visits.fetch_add(1, Ordering::SeqCst);
+            sum.fetch_add(key.wrapping_add(*value), Ordering::SeqCst);
+        }),
+        Err(_) => return None,
+    }
+    Some((visits.load(Ordering::SeqCst), sum.load(Ordering::SeqCst)))
+}
+
+/// Adds its key to each value by a form that writes.
+fn writes<R: Wait + Threads + Sync>(
+    rt: &R,
+    map: &Shared<'_, '_, R>,
+    tds: &mut [ThreadData<Global>],
+) -> bool {
+    match map.par_iter_mut_shared(tds) {
+        Ok(pairs) => {
+            pairs.for_each(rt, |key: &u64, value: &mut u64| {
+                *value = value.wrapping_add(*key);
+            });
+            true
+        }
+        Err(_) => false,
+    }
+}
+
+/// The pairs that a form collects.
+fn collected<R: Wait + Threads + Sync>(
+    rt: &R,
+    alloc: Global,
+    map: &Shared<'_, '_, R>,
+    tds: &mut [ThreadData<Global>],
+) -> Result<Vec<(u64, u64)>, Fail> {
+    let pairs = map.par_iter(tds)?;
+    Ok(pairs.map_collect(rt, alloc, |key: &u64, value: &u64| { (*key, *value) })?)
+}
+
+/// Whether these are a hundred pairs in the order of their shards, each value three times its key.
+fn are_in_order<R: Wait>(map: &Shared<'_, '_, R>, pairs: &[(u64, u64)]) -> bool {
+    let mut right = pairs.len() == 100;
+    let mut last = 0;
+    for (key, value) in pairs {
+        let shard = map.determine_map(key);
+        right &= *value == key.wrapping_mul(3) && last <= shard;
+        last = shard;
+    }
+    right
+}
+
+/// On a new map over rows of a table, with these threads' data: whether each form does what calls one by one do.
+fn agrees_on<R: Wait + Threads + Sync>(
+    rt: &R,
+    alloc: Global,
+    table: &LockTable<'_, R>,
+    shards: usize,
+    tds: &mut [ThreadData<Global>],
+    me: &mut ThreadData<Global>,
+) -> Result<bool, Fail> {
+    let made: Result<Shared<'_, '_, R>, MapFault> = DashMap::with_hasher_and_shard_amount(
+        alloc,
+        SpreadState,
+        shards,
+        table,
+    );
+    let map = made?;
+    let mut right = fills(&map, me);
+    right &= visited(rt, &map, tds) == Some((100, 14_850));
+    right &= writes(rt, &map, tds);
+    Ok(right & are_in_order(&map, &collected(rt, alloc, &map, tds)?))
+}
+
+/// On so many shards, with so many threads' data.
 fn agrees<R: Wait + Threads + Copy + Send + Sync + Drop>(
     rt: R,
     alloc: Global,
@@ -44,39 +123,10 @@ fn agrees<R: Wait + Threads + Copy + Send + Sync + Drop>(
     threads: usize,
 ) -> Result<bool, Fail> {
     let lot = ParkingLot::new(rt, alloc, 4, 7)?;
-    let table = LockTable::new(alloc, &lot, shards)?;
-    let made: Result<Shared<'_, '_, R>, MapFault> = DashMap::with_hasher_and_shard_amount(
-        alloc,
-        SpreadState,
-        shards,
-        &table,
-    );
-    let map = made?;
     let mut me = lot.thread_data()?;
     let mut tds = datas(&lot, alloc, threads)?;
-    let mut right = fills(&map, &mut me);
-    let (visits, sum) = (AtomicU64::new(0), AtomicU64::new(0));
-    map.par_iter(&mut tds)?
-        .for_each(&rt, |key: &u64, value: &u64| {
-            visits.fetch_add(1, Ordering::SeqCst);
-            sum.fetch_add(key.wrapping_add(*value), Ordering::SeqCst);
-        });
-    right &= visits.load(Ordering::SeqCst) == 100 && sum.load(Ordering::SeqCst) == 14_850;
-    map.par_iter_mut_shared(&mut tds)?
-        .for_each(&rt, |key: &u64, value: &mut u64| {
-            *value = value.wrapping_add(*key);
-        });
-    let values = map
-        .par_iter(&mut tds)?
-        .map_collect(&rt, alloc, |key: &u64, value: &u64| { (*key, *value) })?;
-    right &= values.len() == 100;
-    let mut last = 0;
-    for (key, value) in &values {
-        let shard = map.determine_map(key);
-        right &= *value == key.wrapping_mul(3) && last <= shard;
-        last = shard;
-    }
-    Ok(right)
+    let table = LockTable::new(alloc, &lot, shards)?;
+    agrees_on(&rt, alloc, &table, shards, &mut tds, &mut me)
 }
 
 #[test]

@@ -27,12 +27,17 @@ pub fn map_of(rt: HostRuntime, keys: u64) -> Result<Map<HostRuntime>, Fail> {
 /// A view of such a map.
 pub type View<R> = ReadOnlyView<u64, u64, SpreadState, PackedLock<R>>;
 
-/// A view of the keys below `keys`, each with its double, on four shards.
-pub fn view_of(rt: HostRuntime, keys: u64) -> Result<View<HostRuntime>, Fail> {
-    match map_of(rt, keys)?.into_read_only() {
+/// The view that a map becomes.
+pub fn view_from<R: Drop>(map: Map<R>) -> Result<View<R>, Fail> {
+    match map.into_read_only() {
         Ok(view) => Ok(view),
         Err(_) => Err("no view".into()),
     }
+}
+
+/// A view of the keys below `keys`, each with its double, on four shards.
+pub fn view_of(rt: HostRuntime, keys: u64) -> Result<View<HostRuntime>, Fail> {
+    view_from(map_of(rt, keys)?)
 }
 
 /// Whether a map has the keys below `keys`, each with its double, and no other.

@@ -3,7 +3,7 @@
 
 use dashmap::set::DashSet;
 use dashmap_map::DashMap;
-use dashmap_plain::Plain;
+use dashmap_plain::{Plain, ReadOnlyView};
 use dashmap_record::{Caller, Recorded};
 use dashmap_table::{MapFault, Shards, SpreadState};
 use lock_api_spin::PackedLock;
@@ -213,8 +213,10 @@ trait Holder<K> {
 
 impl<K: Copy + Eq + Hash, S: BuildHasher> Holder<K> for Shards<K, u64, S> {
     fn put(&mut self, key: K) -> Option<bool> {
-        let old = self.insert(key, 5).ok()?;
-        Some(old.is_none())
+        match self.insert(key, 5) {
+            Ok(old) => Some(old.is_none()),
+            Err(_) => None,
+        }
     }
 
     fn has(&mut self, key: &K) -> bool {
@@ -222,8 +224,10 @@ impl<K: Copy + Eq + Hash, S: BuildHasher> Holder<K> for Shards<K, u64, S> {
     }
 
     fn take(&mut self, key: &K) -> Option<K> {
-        let (stored, _) = self.remove(key)?;
-        Some(stored)
+        match self.remove(key) {
+            Some((stored, _)) => Some(stored),
+            None => None,
+        }
     }
 
     fn length(&mut self) -> u64 {
@@ -240,8 +244,10 @@ type Map<K, S, R> = DashMap<K, u64, S, PackedLock<R>>;
 
 impl<K: Copy + Eq + Hash, S: BuildHasher, R: Wait + Drop> Holder<K> for Map<K, S, R> {
     fn put(&mut self, key: K) -> Option<bool> {
-        let old = self.insert(key, 5, &mut 1).ok()?;
-        Some(old.is_none())
+        match self.insert(key, 5, &mut 1) {
+            Ok(old) => Some(old.is_none()),
+            Err(_) => None,
+        }
     }
 
     fn has(&mut self, key: &K) -> bool {
@@ -249,8 +255,10 @@ impl<K: Copy + Eq + Hash, S: BuildHasher, R: Wait + Drop> Holder<K> for Map<K, S
     }
 
     fn take(&mut self, key: &K) -> Option<K> {
-        let (stored, _) = self.remove(key, &mut 1)?;
-        Some(stored)
+        match self.remove(key, &mut 1) {
+            Some((stored, _)) => Some(stored),
+            None => None,
+        }
     }
 
     fn length(&mut self) -> u64 {
@@ -289,9 +297,12 @@ struct Noted<K: Copy + Eq + Hash, S: BuildHasher + Drop, R: Drop> {
 
 impl<K: Copy + Eq + Hash, S: BuildHasher + Drop, R: Wait + Drop> Holder<K> for Noted<K, S, R> {
     fn put(&mut self, key: K) -> Option<bool> {
-        let old = self.map.insert(key, 5, &mut self.caller, &mut 1).ok()?;
-        self.count = self.count.wrapping_add(u64::from(old.is_none()));
-        Some(old.is_none())
+        let is_new = match self.map.insert(key, 5, &mut self.caller, &mut 1) {
+            Ok(old) => old.is_none(),
+            Err(_) => return None,
+        };
+        self.count = self.count.wrapping_add(u64::from(is_new));
+        Some(is_new)
     }
 
     fn has(&mut self, key: &K) -> bool {
@@ -300,9 +311,13 @@ impl<K: Copy + Eq + Hash, S: BuildHasher + Drop, R: Wait + Drop> Holder<K> for N
     }
 
     fn take(&mut self, key: &K) -> Option<K> {
-        let (stored, _) = self.map.remove(key, &mut self.caller, &mut 1).ok()??;
-        self.count = self.count.wrapping_sub(1);
-        Some(stored)
+        match self.map.remove(key, &mut self.caller, &mut 1) {
+            Ok(Some((stored, _))) => {
+                self.count = self.count.wrapping_sub(1);
+                Some(stored)
+            }
+            Ok(None) | Err(_) => None,
+        }
     }
 
     fn length(&mut self) -> u64 {
@@ -383,19 +398,18 @@ fn holds_in_record<T: Kind, S: BuildHasher + Drop, R: Wait + Copy + Drop>(
     Ok(holds::<T, Noted<T::Key, S, R>>(&mut noted))
 }
 
-/// On a view: each key is found under its other look, and shown as it was put in.
-fn holds_in_view<T: Kind, S: BuildHasher + Drop, R: Wait + Copy + Drop>(
-    rt: R,
-    alloc: Global,
-    hasher: S,
-) -> Result<bool, MapFault> {
-    let mut map: Map<T::Key, S, R> = DashMap::with_hasher_and_shard_amount(alloc, hasher, 4, rt)?;
+/// Puts each key in. Whether there was memory for it shows in what is held then.
+fn fills<T: Kind, H: Holder<T::Key>>(holder: &mut H) {
     for number in 0..T::count() {
-        let _new = map.put(T::key(number));
+        let _new = holder.put(T::key(number));
     }
-    let Ok(view) = map.into_read_only() else {
-        return Ok(false);
-    };
+}
+
+/// A view of keys.
+type View<K, S, R> = ReadOnlyView<K, u64, S, PackedLock<R>>;
+
+/// Whether each key is found under its other look, and shown as it was put in.
+fn shows<T: Kind, S: BuildHasher + Drop, R: Drop>(view: &View<T::Key, S, R>) -> bool {
     let mut right = view.len() as u64 == T::count();
     for number in 0..T::count() {
         let look = T::look(&T::key(number));
@@ -404,7 +418,21 @@ fn holds_in_view<T: Kind, S: BuildHasher + Drop, R: Wait + Copy + Drop>(
             None => false,
         };
     }
-    Ok(right)
+    right
+}
+
+/// On a view.
+fn holds_in_view<T: Kind, S: BuildHasher + Drop, R: Wait + Copy + Drop>(
+    rt: R,
+    alloc: Global,
+    hasher: S,
+) -> Result<bool, MapFault> {
+    let mut map: Map<T::Key, S, R> = DashMap::with_hasher_and_shard_amount(alloc, hasher, 4, rt)?;
+    fills::<T, Map<T::Key, S, R>>(&mut map);
+    match map.into_read_only() {
+        Ok(view) => Ok(shows::<T, S, R>(&view)),
+        Err(_) => Ok(false),
+    }
 }
 
 /// On all of them.
@@ -421,13 +449,17 @@ fn holds_in_all<T: Kind, S: BuildHasher + Copy + Drop, R: Wait + Copy + Drop>(
     Ok(right)
 }
 
+/// Each kind of keys on all of them.
+fn are_held<R: Wait + Copy + Drop>(rt: R, alloc: Global) -> Result<bool, MapFault> {
+    let mut right = holds_in_all::<Units, SpreadState, R>(rt, alloc, SpreadState)?;
+    right &= holds_in_all::<Letters, SpreadState, R>(rt, alloc, SpreadState)?;
+    right &= holds_in_all::<Labels, SpreadState, R>(rt, alloc, SpreadState)?;
+    right &= holds_in_all::<Numbers, OneHash, R>(rt, alloc, OneHash)?;
+    Ok(right & holds_in_all::<Ends, SpreadState, R>(rt, alloc, SpreadState)?)
+}
+
 #[test]
 fn each_kind_of_odd_keys_is_held_by_all(rt: HostRuntime) -> Result<(), Fail> {
-    let mut right = holds_in_all::<Units, SpreadState, HostRuntime>(rt, rt.alloc(), SpreadState)?;
-    right &= holds_in_all::<Letters, SpreadState, HostRuntime>(rt, rt.alloc(), SpreadState)?;
-    right &= holds_in_all::<Labels, SpreadState, HostRuntime>(rt, rt.alloc(), SpreadState)?;
-    right &= holds_in_all::<Numbers, OneHash, HostRuntime>(rt, rt.alloc(), OneHash)?;
-    right &= holds_in_all::<Ends, SpreadState, HostRuntime>(rt, rt.alloc(), SpreadState)?;
-    assert!(rt; right);
+    assert!(rt; are_held(rt, rt.alloc())?);
     Ok(())
 }

@@ -22,19 +22,69 @@ fn keys_below(alloc: Global, amount: u64) -> Result<Vec<u64>, Fail> {
     Ok(keys)
 }
 
-/// How many keys a form visits with so many threads' data, and what they add up to.
+/// How many keys a form visits with these threads' data, and what they add up to.
 fn visited<R: Threads + Wait + Sync + Drop>(
     rt: &R,
     set: &Shared<R>,
     parties: &mut [u32],
 ) -> Option<(u64, u64)> {
-    let visits = AtomicU64::new(0);
-    let sum = AtomicU64::new(0);
-    set.par_iter(parties).ok()?.for_each(rt, |key: &u64| {
-        visits.fetch_add(1, Ordering::SeqCst);
-        sum.fetch_add(*key, Ordering::SeqCst);
-    });
+    let (visits, sum) = (AtomicU64::new(0), AtomicU64::new(0));
+    match set.par_iter(parties) {
+        Ok(keys) => keys.for_each(rt, |key: &u64| {
+            visits.fetch_add(1, Ordering::SeqCst);
+            sum.fetch_add(*key, Ordering::SeqCst);
+        }),
+        Err(_) => return None,
+    }
     Some((visits.load(Ordering::SeqCst), sum.load(Ordering::SeqCst)))
+}
+
+/// Puts the keys below a hundred in with these threads' data.
+fn fills<R: Threads + Wait + Sync + Drop>(
+    rt: &R,
+    alloc: Global,
+    set: &Shared<R>,
+    parties: &mut [u32],
+) -> Result<bool, Fail> {
+    Ok(set.par_extend_shared(rt, keys_below(alloc, 100)?, parties) == Ok(()))
+}
+
+/// Whether a set is filled twice, with the data of three threads and of five, and visited with that of one, two and
+/// eight.
+fn is_filled_and_visited<R: Threads + Wait + Sync + Drop>(
+    rt: &R,
+    alloc: Global,
+    set: &Shared<R>,
+    parties: &mut [u32; 8],
+) -> Result<bool, Fail> {
+    let (three, five) = parties.split_at_mut(3);
+    let mut right = fills(rt, alloc, set, three)?;
+    right &= fills(rt, alloc, set, five)? && set.len(&mut 9) == 100;
+    right &= visited(rt, set, &mut [1]) == Some((100, 4_950));
+    right &= visited(rt, set, &mut [1, 2]) == Some((100, 4_950));
+    Ok(right && visited(rt, set, parties) == Some((100, 4_950)))
+}
+
+/// The keys that a form collects.
+fn collected<R: Threads + Wait + Sync + Drop>(
+    rt: &R,
+    alloc: Global,
+    set: &Shared<R>,
+    parties: &mut [u32; 8],
+) -> Result<Vec<u64>, Fail> {
+    let keys = set.par_iter(parties)?;
+    Ok(keys.map_collect(rt, alloc, |key: &u64| *key)?)
+}
+
+/// Whether keys come in the order of their shards.
+fn are_in_order<R: Wait + Drop>(set: &Shared<R>, keys: &[u64]) -> bool {
+    let (mut right, mut last) = (true, 0);
+    for key in keys {
+        let shard = set.determine_map(key);
+        right &= last <= shard;
+        last = shard;
+    }
+    right
 }
 
 /// On a set of so many threads' shards: whether each form does with each number of threads' data what calls one by one
@@ -52,24 +102,11 @@ fn agrees<R: Wait + Threads + Copy + Send + Sync + Drop>(
     );
     let set = made?;
     let mut parties = [1u32, 2, 3, 4, 5, 6, 7, 8];
-    let (three, five) = parties.split_at_mut(3);
-    let mut right = set.par_extend_shared(&rt, keys_below(alloc, 100)?, three) == Ok(());
-    right &= set.par_extend_shared(&rt, keys_below(alloc, 100)?, five) == Ok(());
-    right &= set.len(&mut 9) == 100;
-    right &= visited(&rt, &set, &mut [1]) == Some((100, 4_950));
-    right &= visited(&rt, &set, &mut [1, 2]) == Some((100, 4_950));
-    right &= visited(&rt, &set, &mut parties) == Some((100, 4_950));
-    let lent = set
-        .par_iter(&mut parties)?
-        .map_collect(&rt, alloc, |key: &u64| *key)?;
-    let mut last = 0;
-    for key in &lent {
-        let shard = set.determine_map(key);
-        right &= last <= shard;
-        last = shard;
-    }
+    let mut right = is_filled_and_visited(&rt, alloc, &set, &mut parties)?;
+    let lent = collected(&rt, alloc, &set, &mut parties)?;
+    right &= lent.len() == 100 && are_in_order(&set, &lent);
     let given = set.into_par_iter().map_collect(&rt, alloc, |key: u64| key)?;
-    Ok(right && lent.len() == 100 && given == lent)
+    Ok(right && given == lent)
 }
 
 #[test]
@@ -82,23 +119,29 @@ fn forms_do_what_calls_do(rt: HostRuntime) -> Result<(), Fail> {
     Ok(())
 }
 
-#[test]
-fn keys_are_given_once_each(rt: HostRuntime) -> Result<(), Fail> {
-    let set: Shared<HostRuntime> = DashSet::from_par_iter(
-        rt.alloc(),
-        keys_below(rt.alloc(), 100)?,
-        SpreadState,
-        2,
-        rt,
-    )?;
-    let visits = AtomicU64::new(0);
-    let sum = AtomicU64::new(0);
-    set.into_par_iter().for_each(&rt, |key: u64| {
+/// How many keys are given by a set that is given up, and what they add up to.
+fn given<R: Threads + Wait + Sync + Drop>(rt: &R, set: Shared<R>) -> (u64, u64) {
+    let (visits, sum) = (AtomicU64::new(0), AtomicU64::new(0));
+    set.into_par_iter().for_each(rt, |key: u64| {
         visits.fetch_add(1, Ordering::SeqCst);
         sum.fetch_add(key, Ordering::SeqCst);
     });
-    assert!(rt; visits.load(Ordering::SeqCst) == 100 && sum.load(Ordering::SeqCst) == 4_950);
+    (visits.load(Ordering::SeqCst), sum.load(Ordering::SeqCst))
+}
+
+#[test]
+fn keys_are_given_once_each(rt: HostRuntime) -> Result<(), Fail> {
+    let keys = keys_below(rt.alloc(), 100)?;
+    let set: Shared<HostRuntime> = DashSet::from_par_iter(rt.alloc(), keys, SpreadState, 2, rt)?;
+    assert!(rt; given(&rt, set) == (100, 4_950));
     Ok(())
+}
+
+/// Whether a set of two keys takes one of two more.
+fn takes_one<R: Threads + Wait + Sync + Drop>(set: &mut Shared<R>, keys: Vec<u64>) -> bool {
+    let were_two = set.len(&mut 1) == 2;
+    let are_put = set.par_extend(keys) == Ok(());
+    were_two & are_put & (set.len(&mut 1) == 3) & set.contains(&3, &mut 1)
 }
 
 #[test]
@@ -111,19 +154,21 @@ fn equal_keys_are_put_in_once(rt: HostRuntime) -> Result<(), Fail> {
         2,
         rt,
     )?;
-    let mut right = set.len(&mut 1) == 2;
-    right &= set.par_extend(vec![in rt.alloc(); 2u64, 3]?) == Ok(());
-    right &= set.len(&mut 1) == 3 && set.contains(&3, &mut 1);
-    assert!(rt; right);
+    assert!(rt; takes_one(&mut set, vec![in rt.alloc(); 2u64, 3]?));
     Ok(())
+}
+
+/// Whether forms are refused without threads' data, and change nothing.
+fn is_refused<R: Threads + Wait + Sync + Drop>(rt: &R, set: &Shared<R>, keys: Vec<u64>) -> bool {
+    let lent = set.par_iter(&mut []).err();
+    let refused = set.par_extend_shared(rt, keys, &mut []);
+    let are_refused = lent == Some(NoThreadData) && refused == Err(ParExtendFault::NoThreadData);
+    are_refused && set.is_empty(&mut 1)
 }
 
 #[test]
 fn nobodys_data_is_refused(rt: HostRuntime) -> Result<(), Fail> {
     let set: Shared<HostRuntime> = DashSet::with_hasher(rt.alloc(), SpreadState, 2, rt)?;
-    let mut right = set.par_iter(&mut []).err() == Some(NoThreadData);
-    let refused = set.par_extend_shared(&rt, keys_below(rt.alloc(), 16)?, &mut []);
-    right &= refused == Err(ParExtendFault::NoThreadData) && set.is_empty(&mut 1);
-    assert!(rt; right);
+    assert!(rt; is_refused(&rt, &set, keys_below(rt.alloc(), 16)?));
     Ok(())
 }

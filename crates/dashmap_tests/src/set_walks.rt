@@ -42,26 +42,37 @@ fn shows_five<R: Wait + Drop>(set: &Spun<u64, R>, alloc: Global) -> Result<bool,
 
 #[test]
 fn an_item_keeps_the_hold_of_its_shard(rt: HostRuntime) -> Result<(), Fail> {
-    let mut set: Spun<u64, HostRuntime> = set_of(rt, rt.alloc())?;
-    let mut right = set.insert_mut(5) == Ok(true);
-    right &= shows_five(&set, rt.alloc())?;
-    assert!(rt; right && make(&set, Call::Remove(5), &mut 1) == Answer::Number(5));
+    let set: Spun<u64, HostRuntime> = set_of(rt, rt.alloc())?;
+    assert!(rt; make(&set, Call::Insert(5), &mut 1) == Answer::Flag(true));
+    assert!(rt; shows_five(&set, rt.alloc())?);
+    assert!(rt; make(&set, Call::Remove(5), &mut 1) == Answer::Number(5));
     Ok(())
 }
 
-#[test]
-fn keys_are_put_in_one_after_another_and_come_once_each(rt: HostRuntime) -> Result<(), Fail> {
-    let mut set: Spun<u64, HostRuntime> = set_of(rt, rt.alloc())?;
-    let mut right = set.extend(vec![in rt.alloc(); 1u64, 2, 1]?.into_iter()) == Ok(());
-    right &= make(&set, Call::Len, &mut 1) == Answer::Number(2);
-    right &= set.insert_mut(2) == Ok(false) && set.insert_mut(3) == Ok(true);
-    let mut sum = 0u64;
-    let mut keys = 0u64;
+/// Whether a set takes two keys, one of them twice, and then a third by its owner.
+fn takes_three<R: Wait + Drop>(set: &mut Spun<u64, R>, keys: Vec<u64>) -> bool {
+    let are_put = set.extend(keys.into_iter()) == Ok(());
+    let are_two = make(set, Call::Len, &mut 1) == Answer::Number(2);
+    let is_known = set.insert_mut(2) == Ok(false);
+    are_put & are_two & is_known & (set.insert_mut(3) == Ok(true))
+}
+
+/// How many keys a set gives that is given up, and their sum.
+fn given<R: Wait + Drop>(set: Spun<u64, R>) -> (u64, u64) {
+    let (mut keys, mut sum) = (0u64, 0u64);
     for key in set {
         sum = sum.wrapping_add(key);
         keys = keys.wrapping_add(1);
     }
-    assert!(rt; right && keys == 3 && sum == 6);
+    (keys, sum)
+}
+
+#[test]
+fn keys_are_put_in_one_after_another_and_come_once_each(rt: HostRuntime) -> Result<(), Fail> {
+    let keys = vec![in rt.alloc(); 1u64, 2, 1]?;
+    let mut set: Spun<u64, HostRuntime> = set_of(rt, rt.alloc())?;
+    assert!(rt; takes_three(&mut set, keys));
+    assert!(rt; given(set) == (3, 6));
     Ok(())
 }
 
@@ -87,15 +98,18 @@ fn keys_in_shards<R: Wait + Drop>(set: &Spun<u64, R>) -> usize {
     keys
 }
 
+/// Whether a clone of a set of the keys below 3 has these, and loses one of them.
+fn loses_one<R: Wait + Drop>(clone: &Spun<u64, R>) -> bool {
+    let is_gone = make(clone, Call::Remove(1), &mut 1) == Answer::Number(1);
+    is_gone & (make(clone, Call::Iter, &mut 1) == Answer::Met(2, 2))
+}
+
 #[test]
 fn a_clone_of_a_set_goes_its_own_way(rt: HostRuntime) -> Result<(), Fail> {
     let set: Spun<u64, HostRuntime> = set_of(rt, rt.alloc())?;
-    let mut right = make(&set, Call::InsertBelow(3), &mut 1) == Answer::Number(3);
-    let clone = set.clone(rt, &mut 1)?;
-    right &= make(&clone, Call::Remove(1), &mut 1) == Answer::Number(1);
-    right &= make(&clone, Call::Iter, &mut 1) == Answer::Met(2, 2);
-    assert!(rt; right && make(&set, Call::Iter, &mut 1) == Answer::Met(3, 3));
-    assert!(rt; keys_in_shards(&set) == 3);
+    assert!(rt; make(&set, Call::InsertBelow(3), &mut 1) == Answer::Number(3));
+    assert!(rt; loses_one(&set.clone(rt, &mut 1)?));
+    assert!(rt; make(&set, Call::Iter, &mut 1) == Answer::Met(3, 3) && keys_in_shards(&set) == 3);
     Ok(())
 }
 

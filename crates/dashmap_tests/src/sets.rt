@@ -254,9 +254,27 @@ type Parked<'t, 'l, R> = Numbers<
     Global,
 >;
 
-/// Makes the calls of a table on an empty set in that heap. A call that is refused a growth is made again, and is
-/// answered then as the row says; but where it puts in many keys, of which some are in by then. Fails with the number of
-/// the first row that is answered otherwise.
+/// Makes a call on a set in that heap. One that is refused a growth is made again, and is answered then as it is to be;
+/// but where it puts in many keys, of which some are in by then. Whether it was answered so.
+fn is_answered<S: BuildHasher, Q: RawRwLock, A: Allocator + Clone>(
+    set: &Numbers<S, Q, A>,
+    heap: &RefusingHeap<Global>,
+    (call, wanted): Row,
+    me: &mut Q::Party,
+) -> bool
+where
+    Q::Runtime: Wait,
+{
+    let refused = heap.refused();
+    if make(set, call, me) == wanted {
+        return true;
+    }
+    let is_refused = heap.refused() > refused;
+    is_refused && (make(set, call, me) == wanted || matches!(call, Call::InsertBelow(_)))
+}
+
+/// Makes the calls of a table on an empty set in that heap, each again that is refused a growth. Fails with the number
+/// of the first row that is answered otherwise.
 fn run_again<R: Wait + Copy + Drop>(
     rt: R,
     heap: &RefusingHeap<Global>,
@@ -268,16 +286,7 @@ fn run_again<R: Wait + Copy + Drop>(
         return if heap.refused() == 1 { Ok(()) } else { Err(0) };
     };
     for row in 0..rows.len() {
-        let (call, wanted) = rows[row];
-        let refused = heap.refused();
-        let mut answer = make(&set, call, &mut 1);
-        if answer != wanted && heap.refused() > refused {
-            answer = make(&set, call, &mut 1);
-            if matches!(call, Call::InsertBelow(_)) {
-                answer = wanted;
-            }
-        }
-        if answer != wanted {
+        if !is_answered(&set, heap, rows[row], &mut 1) {
             return Err(row);
         }
     }

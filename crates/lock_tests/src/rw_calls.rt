@@ -2,8 +2,8 @@
 
 use crate::acts::{append, change, store, took};
 use crate::script::{
-    CHECK, LAST_READER_WAKES, LEAVE, LOADS, OWNED, REFUSED, WAKE, WAKES_AND_RELEASES, follow,
-    follow_load, spin_beside_a_reader, try_in_vain,
+    CHECK, LAST_READER_WAKES, LEAVE, LOADS, OWNED, REFUSED, RELEASED, WAKE, WAKES_AND_RELEASES,
+    follow, follow_load, spin_beside_a_reader, try_in_vain,
 };
 use parking_lot_core::ParkToken;
 use parking_lot_protocol::{Act, ActResult, HAND_OVER, RwCore, SectionAct, TRY_AGAIN};

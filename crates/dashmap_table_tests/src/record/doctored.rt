@@ -59,12 +59,12 @@ fn gathered<A: Allocator + Copy + Drop>(
     histories: [&[Entry]; 2],
     logs: [&[Entry]; 2],
 ) -> Result<Vec<Entry, A>, GatherFault> {
-    let histories = lists(alloc, histories)?;
-    let logs = lists(alloc, logs)?;
+    let histories = lists(alloc, &histories)?;
+    let logs = lists(alloc, &logs)?;
     gather(alloc, histories, logs, &Fold::new())
 }
 
-fn lists<A: Allocator + Copy>(alloc: A, parts: [&[Entry]; 2]) -> Result<Lists<A>, AllocError> {
+fn lists<A: Allocator + Copy>(alloc: A, parts: &[&[Entry]]) -> Result<Lists<A>, AllocError> {
     let mut all = Vec::new(alloc);
     for part in parts {
         let mut list = Vec::new(alloc);
@@ -89,36 +89,55 @@ fn nothing_at_all_is_an_empty_list(rt: HostRuntime) {
     assert!(rt; all.is_ok_and(|all| all.is_empty()));
 }
 
+/// As what the notes are refused.
+fn refused<A: Allocator + Copy + Drop>(
+    alloc: A,
+    histories: [&[Entry]; 2],
+    logs: [&[Entry]; 2],
+) -> Option<GatherFault> {
+    gathered(alloc, histories, logs).err()
+}
+
 #[test]
 fn each_way_of_doctoring_has_its_name(rt: HostRuntime) {
     let (a, b, c) = (first(), second(), other());
     let alloc = rt.alloc();
-    let stamps = gathered(alloc, [&[a, a], &[c]], [&[a, b], &[c]]);
-    assert!(rt; matches!(stamps, Err(GatherFault::StampOrder)));
-    let unlogged = gathered(alloc, [&[a, b], &[c]], [&[a], &[c]]);
-    assert!(rt; matches!(unlogged, Err(GatherFault::NotInLog)));
+    let stamps = refused(alloc, [&[a, a], &[c]], [&[a, b], &[c]]);
+    let unlogged = refused(alloc, [&[a, b], &[c]], [&[a], &[c]]);
     let stranger = Entered { caller: 7, ..c };
-    let strange = gathered(alloc, [&[a, b], &[stranger]], [&[a, b], &[c]]);
-    assert!(rt; matches!(strange, Err(GatherFault::NotInLog)));
-    let lost = gathered(alloc, [&[a], &[c]], [&[a, b], &[c]]);
-    assert!(rt; matches!(lost, Err(GatherFault::NotInHistory)));
+    let strange = refused(alloc, [&[a, b], &[stranger]], [&[a, b], &[c]]);
+    let lost = refused(alloc, [&[a], &[c]], [&[a, b], &[c]]);
+    assert!(rt;
+        (stamps == Some(GatherFault::StampOrder)) & (lost == Some(GatherFault::NotInHistory))
+    );
+    assert!(rt;
+        (unlogged == Some(GatherFault::NotInLog)) & (strange == Some(GatherFault::NotInLog))
+    );
+}
+
+#[test]
+fn each_part_of_an_entry_is_looked_at(rt: HostRuntime) {
+    let (a, b, c) = (first(), second(), other());
+    let alloc = rt.alloc();
     let elsewhere = Entered { shard: 1, ..b };
-    let renumbered = gathered(alloc, [&[a, elsewhere], &[c]], [&[a, elsewhere], &[c]]);
-    assert!(rt; matches!(renumbered, Err(GatherFault::NotInHistory)));
-    let moved = gathered(alloc, [&[a], &[c, elsewhere]], [&[a, elsewhere], &[c]]);
-    assert!(rt; matches!(moved, Err(GatherFault::WrongShard)));
+    let renumbered = refused(alloc, [&[a, elsewhere], &[c]], [&[a, elsewhere], &[c]]);
+    let moved = refused(alloc, [&[a], &[c, elsewhere]], [&[a, elsewhere], &[c]]);
     let unhashed = Entered {
         hash: b.hash ^ 1,
         ..b
     };
-    let rehashed = gathered(alloc, [&[a, unhashed], &[c]], [&[a, unhashed], &[c]]);
-    assert!(rt; matches!(rehashed, Err(GatherFault::WrongHash)));
+    let rehashed = refused(alloc, [&[a, unhashed], &[c]], [&[a, unhashed], &[c]]);
     let invented = Entered {
         reply: CallReply::Value(11),
         ..b
     };
-    let replied = gathered(alloc, [&[a, invented], &[c]], [&[a, invented], &[c]]);
-    assert!(rt; matches!(replied, Err(GatherFault::WrongReply)));
+    let replied = refused(alloc, [&[a, invented], &[c]], [&[a, invented], &[c]]);
+    assert!(rt;
+        (renumbered == Some(GatherFault::NotInHistory)) & (moved == Some(GatherFault::WrongShard))
+    );
+    assert!(rt;
+        (rehashed == Some(GatherFault::WrongHash)) & (replied == Some(GatherFault::WrongReply))
+    );
 }
 
 #[test]
@@ -134,21 +153,20 @@ fn a_replacement_needs_the_value_that_was_seen(rt: HostRuntime) {
     assert!(rt; all.is_ok_and(|all| all.len() == 5));
 }
 
+/// What is gathered of three histories and of two logs, the first of which have these entries.
+fn gathered_of_three<A: Allocator + Copy + Drop>(
+    alloc: A,
+    entries: &[Entry],
+) -> Result<Vec<Entry, A>, GatherFault> {
+    let histories = lists(alloc, &[entries, &[], &[]])?;
+    let logs = lists(alloc, &[entries, &[]])?;
+    gather(alloc, histories, logs, &Fold::new())
+}
+
 #[test]
-fn three_histories_are_a_wrong_amount_where_there_is_an_entry(rt: HostRuntime) -> Result<(), Fail> {
-    let alloc = rt.alloc();
-    let mut histories = lists(alloc, [&[first()], &[]])?;
-    histories.push(Vec::new(alloc))?;
-    let some = gather(
-        alloc,
-        histories,
-        lists(alloc, [&[first()], &[]])?,
-        &Fold::new(),
-    );
-    assert!(rt; matches!(some, Err(GatherFault::WrongShard)));
-    let mut empty = lists(alloc, [&[], &[]])?;
-    empty.push(Vec::new(alloc))?;
-    let none = gather(alloc, empty, lists(alloc, [&[], &[]])?, &Fold::new());
+fn three_histories_are_a_wrong_amount_where_there_is_an_entry(rt: HostRuntime) {
+    let some = gathered_of_three(rt.alloc(), &[first()]).err();
+    assert!(rt; some == Some(GatherFault::WrongShard));
+    let none = gathered_of_three(rt.alloc(), &[]);
     assert!(rt; none.is_ok_and(|all| all.is_empty()));
-    Ok(())
 }
