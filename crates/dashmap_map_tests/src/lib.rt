@@ -15,9 +15,13 @@ mod keys;
 #[cfg(test)]
 mod making;
 #[cfg(test)]
+mod names;
+#[cfg(test)]
 mod operators;
 #[cfg(test)]
 mod refused;
+#[cfg(test)]
+mod shards;
 #[cfg(test)]
 mod shown;
 #[cfg(test)]

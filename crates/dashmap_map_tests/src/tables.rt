@@ -2,6 +2,7 @@
 
 pub use dashmap_calls::Row;
 use dashmap_calls::{Call, Numbers, make, run};
+use dashmap_iter::shard_guards::Looks;
 use dashmap_map::DashMap;
 use dashmap_table::{MapFault, SpreadState};
 use lock_api_raw::RawRwLock;
@@ -24,6 +25,24 @@ pub fn map_of<K: Eq + Hash + Drop, V: Drop, R: Drop + Copy>(
     shards: usize,
 ) -> Result<Spun<K, V, R>, MapFault> {
     DashMap::with_hasher_and_shard_amount(alloc, SpreadState, shards, rt)
+}
+
+/// How many pairs the shards of a map have, each read in its turn.
+pub fn pairs_in_shards<K: Eq + Hash + Drop, V: Drop, Q: RawRwLock>(
+    map: &DashMap<K, V, SpreadState, Q>,
+    me: &mut Q::Party,
+) -> usize
+where
+    Q::Runtime: Wait,
+{
+    let mut pairs = 0usize;
+    let shards = map.shards();
+    for number in 0..shards.count() {
+        if let Some(shard) = shards.read(number, me) {
+            pairs = pairs.wrapping_add(shard.len());
+        }
+    }
+    pairs
 }
 
 /// A map of numbers whose locks are rows of a table.

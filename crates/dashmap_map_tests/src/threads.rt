@@ -232,20 +232,25 @@ fn saw<C: Clock>(clock: &C, flag: &AtomicBool) -> bool {
 }
 
 /// Holds key 0 until the other thread's insertion was answered, and tells whether it was.
-fn holds<R: Wait + Clock>(
+fn holds<R: Clock, Q: RawRwLock<Party = ThreadData<Global>>>(
     rt: &R,
-    map: &Parked<'_, '_, R>,
+    map: &Numbers<SpreadState, Q, Global>,
     mut me: ThreadData<Global>,
     held: &AtomicBool,
     answered: &AtomicBool,
-) -> bool {
-    let Some(mut guard) = map.get_mut(&0, &mut me) else {
-        return false;
-    };
-    held.store(true, Ordering::SeqCst);
-    let is_answered = saw(rt, answered);
-    *guard = 9;
-    is_answered
+) -> bool
+where
+    Q::Runtime: Wait,
+{
+    match map.get_mut(&0, &mut me) {
+        Some(mut guard) => {
+            held.store(true, Ordering::SeqCst);
+            let is_answered = saw(rt, answered);
+            *guard = 9;
+            is_answered
+        }
+        None => false,
+    }
 }
 
 /// Puts a key of the other shard in while key 0 is held.

@@ -96,10 +96,8 @@ fn a_pair_under_another_hash_or_in_another_shard_makes_no_view(
         (shard ^ 1, hash, false),
         (shard, hash ^ 1, false),
     ] {
-        assert!(rt;
-            makes_view(rt.alloc(), shard, hash)? == is_made,
-            "{shard} {hash}"
-        );
+        let made = makes_view(rt.alloc(), shard, hash)?;
+        assert!(rt; made == is_made, "{shard} {hash}");
     }
     Ok(())
 }

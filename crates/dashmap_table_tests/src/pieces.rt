@@ -75,10 +75,8 @@ fn answers_in_order<R: Threads + Sync>(rt: &R, alloc: Global, amount: usize) -> 
 #[test]
 fn answers_come_in_the_order_of_one_thread(rt: HostRuntime) -> Result<(), Fail> {
     for amount in AMOUNTS {
-        assert!(rt;
-            answers_in_order(&rt, rt.alloc(), amount)?,
-            "{amount} shards"
-        );
+        let right = answers_in_order(&rt, rt.alloc(), amount)?;
+        assert!(rt; right, "{amount} shards");
     }
     Ok(())
 }

@@ -16,8 +16,6 @@ mod forms;
 #[cfg(test)]
 mod maps;
 #[cfg(test)]
-mod names;
-#[cfg(test)]
 mod noted;
 #[cfg(test)]
 mod odd_keys;
@@ -33,7 +31,5 @@ mod set_making;
 mod set_walks;
 #[cfg(test)]
 mod sets;
-#[cfg(test)]
-mod shards;
 #[cfg(test)]
 mod views;

@@ -1,8 +1,9 @@
 //! An item of a set's walk, calls of its owner, its clones, its shards, its text, and threads that share it.
 
-use crate::sets::{Answer, Call, Spun, make, set_of};
+use crate::sets::{Answer, Call, Numbers, Spun, make, set_of};
 use dashmap::set::DashSet;
 use dashmap_table::SpreadState;
+use lock_api_raw::RawRwLock;
 use std::alloc::{AllocError, Global};
 use std::string::String;
 use std::sync::Wait;
@@ -10,31 +11,51 @@ use std::test::Fail;
 use std::thread;
 use std::thread::Threads;
 
+/// A set of numbers, over any lock.
+type Set<Q> = Numbers<SpreadState, Q, Global>;
+
 /// What is printed of a set.
-fn text_of<R: Wait + Drop>(set: &Spun<u64, R>, alloc: Global) -> Result<String, AllocError> {
+fn text_of<Q: RawRwLock>(set: &Set<Q>, alloc: Global) -> Result<String, AllocError>
+where
+    Q::Runtime: Wait,
+{
     format!(in alloc; "{set:?}")
 }
 
 /// The key of the first item of a walk that is over, and what is printed of the set while the item is kept.
-fn kept_item<R: Wait + Drop>(
-    set: &Spun<u64, R>,
+fn kept_item<Q: RawRwLock>(
+    set: &Set<Q>,
     alloc: Global,
-) -> Result<Option<(u64, String)>, AllocError> {
-    let mut me = 1;
-    let mut walk = set.iter(&mut me);
-    let Some(Ok(item)) = walk.next() else {
-        return Ok(None);
-    };
-    let is_over = walk.next().is_none();
-    drop(walk);
-    let text = text_of(set, alloc)?;
-    Ok(if is_over { Some((*item, text)) } else { None })
+    me: &mut Q::Party,
+) -> Result<Option<(u64, String)>, AllocError>
+where
+    Q::Runtime: Wait,
+{
+    let mut walk = set.iter(me);
+    match walk.next() {
+        Some(Ok(item)) => {
+            let is_over = walk.next().is_none();
+            drop(walk);
+            match text_of(set, alloc) {
+                Ok(text) => Ok(is_over.then_some((*item, text))),
+                Err(fault) => Err(fault),
+            }
+        }
+        _ => Ok(None),
+    }
 }
 
 /// Whether the set of 5 is printed so, also while an item of it is kept.
-fn shows_five<R: Wait + Drop>(set: &Spun<u64, R>, alloc: Global) -> Result<bool, AllocError> {
+fn shows_five<Q: RawRwLock>(
+    set: &Set<Q>,
+    alloc: Global,
+    me: &mut Q::Party,
+) -> Result<bool, AllocError>
+where
+    Q::Runtime: Wait,
+{
     let is_shown = text_of(set, alloc)?.as_str() == "{5: ()}";
-    match kept_item(set, alloc)? {
+    match kept_item(set, alloc, me)? {
         Some((key, text)) => Ok(is_shown && key == 5 && text.as_str() == "{5: ()}"),
         None => Ok(false),
     }
@@ -44,7 +65,7 @@ fn shows_five<R: Wait + Drop>(set: &Spun<u64, R>, alloc: Global) -> Result<bool,
 fn an_item_keeps_the_hold_of_its_shard(rt: HostRuntime) -> Result<(), Fail> {
     let set: Spun<u64, HostRuntime> = set_of(rt, rt.alloc())?;
     assert!(rt; make(&set, Call::Insert(5), &mut 1) == Answer::Flag(true));
-    assert!(rt; shows_five(&set, rt.alloc())?);
+    assert!(rt; shows_five(&set, rt.alloc(), &mut 1)?);
     assert!(rt; make(&set, Call::Remove(5), &mut 1) == Answer::Number(5));
     Ok(())
 }
@@ -87,11 +108,14 @@ fn a_set_is_made_of_an_iterator(rt: HostRuntime) -> Result<(), Fail> {
 }
 
 /// How many keys the shards of a set have, each read in its turn.
-fn keys_in_shards<R: Wait + Drop>(set: &Spun<u64, R>) -> usize {
+fn keys_in_shards<Q: RawRwLock>(set: &Set<Q>, me: &mut Q::Party) -> usize
+where
+    Q::Runtime: Wait,
+{
     let mut keys = 0usize;
     let shards = set.shards();
     for number in 0..shards.count() {
-        if let Some(shard) = shards.read(number, &mut 1) {
+        if let Some(shard) = shards.read(number, me) {
             keys = keys.wrapping_add(shard.len());
         }
     }
@@ -109,7 +133,8 @@ fn a_clone_of_a_set_goes_its_own_way(rt: HostRuntime) -> Result<(), Fail> {
     let set: Spun<u64, HostRuntime> = set_of(rt, rt.alloc())?;
     assert!(rt; make(&set, Call::InsertBelow(3), &mut 1) == Answer::Number(3));
     assert!(rt; loses_one(&set.clone(rt, &mut 1)?));
-    assert!(rt; make(&set, Call::Iter, &mut 1) == Answer::Met(3, 3) && keys_in_shards(&set) == 3);
+    let walked = make(&set, Call::Iter, &mut 1);
+    assert!(rt; walked == Answer::Met(3, 3) && keys_in_shards(&set, &mut 1) == 3);
     Ok(())
 }
 

@@ -1,9 +1,11 @@
 //! Maps that become views, and views that become maps again.
 
 use crate::maps::{Map, View, has_all, map_of, view_from, view_of};
+use dashmap_map::DashMap;
 use dashmap_map::parts::shard_locks;
 use dashmap_plain::Plain;
 use dashmap_table::SpreadState;
+use lock_api_raw::RawRwLock;
 use std::hash::BuildHasher;
 use std::sync::Wait;
 use std::test::Fail;
@@ -71,12 +73,8 @@ fn a_map_that_was_a_view_takes_pairs_and_becomes_one_again(rt: HostRuntime) -> R
 
 /// The room of a map, how many pairs it has, and whether it has none.
 fn room_of<R: Wait + Drop>(map: &Map<R>) -> (usize, usize, bool) {
-    let mut me = 1;
-    (
-        map.capacity(&mut me),
-        map.len(&mut me),
-        map.is_empty(&mut me),
-    )
+    let (room, pairs) = (map.capacity(&mut 1), map.len(&mut 1));
+    (room, pairs, map.is_empty(&mut 1))
 }
 
 #[test]
@@ -89,26 +87,16 @@ fn a_view_and_the_map_after_it_have_the_room_that_the_map_had(rt: HostRuntime) -
     Ok(())
 }
 
-/// Puts a key into a shard of a map under a hash, whatever its route is.
-fn put<R: Wait + Drop>(map: &Map<R>, shard: usize, hash: u64, key: u64) -> bool {
-    let mut me = 1;
-    match shard_locks(map).get(shard) {
-        Some(lock) => lock
-            .write(&mut me)
-            .insert(hash, key, key.wrapping_mul(2))
-            .is_ok(),
+/// Puts key 7 into a shard that isn't its own, and tells whether there was room.
+fn put_away<Q: RawRwLock>(map: &DashMap<u64, u64, SpreadState, Q>, me: &mut Q::Party) -> bool
+where
+    Q::Runtime: Wait,
+{
+    let hash = SpreadState.hash_one(&7u64);
+    match shard_locks(map).get(map.determine_map(&7) ^ 1) {
+        Some(lock) => lock.write(me).insert(hash, 7, 14).is_ok(),
         None => false,
     }
-}
-
-/// Puts key 7 into a shard that isn't its own.
-fn put_away<R: Wait + Drop>(map: &Map<R>) -> bool {
-    put(
-        map,
-        map.determine_map(&7) ^ 1,
-        SpreadState.hash_one(&7u64),
-        7,
-    )
 }
 
 /// The map that isn't a view, and the number of its refusal.
@@ -122,7 +110,7 @@ fn given_back<R: Drop>(map: Map<R>) -> Result<(u16, Map<R>), Fail> {
 #[test]
 fn a_pair_in_a_wrong_shard_gives_the_map_back(rt: HostRuntime) -> Result<(), Fail> {
     let map = map_of(rt, 7)?;
-    assert!(rt; put_away(&map));
+    assert!(rt; put_away(&map, &mut 1));
     let (code, map) = given_back(map)?;
     assert!(rt; code == 33 && map.len(&mut 1) == 8 && map.contains_key(&6, &mut 1));
     Ok(())

@@ -1,8 +1,11 @@
 //! Two callers at a map of two shards, and their notes doctored in each way.
 use crate::record::calls::Fold;
+use dashmap_record::history::GatherFault::{
+    NotInHistory, NotInLog, StampOrder, WrongHash, WrongReply, WrongShard,
+};
 use dashmap_record::history::{Call, CallReply, Entered, GatherFault, gather};
 use dashmap_table::{is_shard_amount, route};
-use std::alloc::{AllocError, Allocator};
+use std::alloc::{AllocError, Allocator, Global};
 use std::hash::BuildHasher;
 use std::test::Fail;
 
@@ -89,55 +92,40 @@ fn nothing_at_all_is_an_empty_list(rt: HostRuntime) {
     assert!(rt; all.is_ok_and(|all| all.is_empty()));
 }
 
-/// As what the notes are refused.
-fn refused<A: Allocator + Copy + Drop>(
-    alloc: A,
-    histories: [&[Entry]; 2],
-    logs: [&[Entry]; 2],
-) -> Option<GatherFault> {
-    gathered(alloc, histories, logs).err()
+/// Histories and logs, and what they are refused as.
+type Doctored<'e> = ([&'e [Entry]; 2], [&'e [Entry]; 2], GatherFault);
+
+/// How many of these are refused so, up to the first that isn't.
+fn refused(alloc: Global, rows: &[Doctored<'_>]) -> usize {
+    for (at, (histories, logs, fault)) in rows.iter().enumerate() {
+        if gathered(alloc, *histories, *logs).err() != Some(*fault) {
+            return at;
+        }
+    }
+    rows.len()
 }
 
 #[test]
 fn each_way_of_doctoring_has_its_name(rt: HostRuntime) {
     let (a, b, c) = (first(), second(), other());
-    let alloc = rt.alloc();
-    let stamps = refused(alloc, [&[a, a], &[c]], [&[a, b], &[c]]);
-    let unlogged = refused(alloc, [&[a, b], &[c]], [&[a], &[c]]);
-    let stranger = Entered { caller: 7, ..c };
-    let strange = refused(alloc, [&[a, b], &[stranger]], [&[a, b], &[c]]);
-    let lost = refused(alloc, [&[a], &[c]], [&[a, b], &[c]]);
-    assert!(rt;
-        (stamps == Some(GatherFault::StampOrder)) & (lost == Some(GatherFault::NotInHistory))
-    );
-    assert!(rt;
-        (unlogged == Some(GatherFault::NotInLog)) & (strange == Some(GatherFault::NotInLog))
-    );
-}
-
-#[test]
-fn each_part_of_an_entry_is_looked_at(rt: HostRuntime) {
-    let (a, b, c) = (first(), second(), other());
-    let alloc = rt.alloc();
-    let elsewhere = Entered { shard: 1, ..b };
-    let renumbered = refused(alloc, [&[a, elsewhere], &[c]], [&[a, elsewhere], &[c]]);
-    let moved = refused(alloc, [&[a], &[c, elsewhere]], [&[a, elsewhere], &[c]]);
-    let unhashed = Entered {
-        hash: b.hash ^ 1,
-        ..b
-    };
-    let rehashed = refused(alloc, [&[a, unhashed], &[c]], [&[a, unhashed], &[c]]);
-    let invented = Entered {
-        reply: CallReply::Value(11),
-        ..b
-    };
-    let replied = refused(alloc, [&[a, invented], &[c]], [&[a, invented], &[c]]);
-    assert!(rt;
-        (renumbered == Some(GatherFault::NotInHistory)) & (moved == Some(GatherFault::WrongShard))
-    );
-    assert!(rt;
-        (rehashed == Some(GatherFault::WrongHash)) & (replied == Some(GatherFault::WrongReply))
-    );
+    let (stranger, elsewhere) = (Entered { caller: 7, ..c }, Entered { shard: 1, ..b });
+    let (hash, reply) = (b.hash ^ 1, CallReply::Value(11));
+    let (one, both, other): (&[Entry], &[Entry], &[Entry]) = (&[a], &[a, b], &[c]);
+    let moved: &[Entry] = &[a, elsewhere];
+    let unhashed: &[Entry] = &[a, Entered { hash, ..b }];
+    let invented: &[Entry] = &[a, Entered { reply, ..b }];
+    let rows: [Doctored<'_>; 8] = [
+        ([&[a, a], other], [both, other], StampOrder),
+        ([both, other], [one, other], NotInLog),
+        ([both, &[stranger]], [both, other], NotInLog),
+        ([one, other], [both, other], NotInHistory),
+        ([moved, other], [moved, other], NotInHistory),
+        ([one, &[c, elsewhere]], [moved, other], WrongShard),
+        ([unhashed, other], [unhashed, other], WrongHash),
+        ([invented, other], [invented, other], WrongReply),
+    ];
+    let count = refused(rt.alloc(), &rows);
+    assert!(rt; count == 8, "row {count}");
 }
 
 #[test]
@@ -166,7 +154,7 @@ fn gathered_of_three<A: Allocator + Copy + Drop>(
 #[test]
 fn three_histories_are_a_wrong_amount_where_there_is_an_entry(rt: HostRuntime) {
     let some = gathered_of_three(rt.alloc(), &[first()]).err();
-    assert!(rt; some == Some(GatherFault::WrongShard));
+    assert!(rt; some == Some(WrongShard));
     let none = gathered_of_three(rt.alloc(), &[]);
     assert!(rt; none.is_ok_and(|all| all.is_empty()));
 }
