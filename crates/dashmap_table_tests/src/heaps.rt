@@ -38,31 +38,27 @@ fn has_all(shard: &mut Small<'_>, count: u64) -> bool {
         && answers(shard, Call::Len, Answer::Number(count))
 }
 
-/// Whether a key is refused, comes back and changes nothing.
-fn is_refused(shard: &mut Small<'_>, key: u64) -> bool {
-    let capacity = shard.capacity();
-    let is_back = answers(shard, Call::Insert(key, key, 7), Answer::Back(key, 7));
-    let is_away = answers(shard, Call::Find(key, key), Answer::Absent);
-    is_back & is_away & (shard.capacity() == capacity)
-}
-
-/// Whether the keys below a number get other values and their own again, for which no memory is needed.
-fn are_replaced(shard: &mut Small<'_>, count: u64) -> bool {
-    let mut right = true;
-    for key in 0..count {
-        right &= answers(shard, Call::Insert(key, key, 100), Answer::Number(key));
-        right &= answers(shard, Call::Insert(key, key, key), Answer::Number(100));
-    }
-    right
-}
-
 /// On a heap: how many of ten keys are taken, if a refused one comes back and changes nothing, and one that is there
 /// needs no memory.
 fn taken_of_ten(heap: &LocalHeap) -> Option<u64> {
     let (mut shard, count) = packed(heap, 10);
-    let mut right = count == 10 || is_refused(&mut shard, count);
-    right &= are_replaced(&mut shard, count);
-    (right && has_all(&mut shard, count)).then_some(count)
+    let capacity = shard.capacity();
+    let mut right = true;
+    if count < 10 {
+        let refused = Answer::Back(count, 7);
+        right &= answers(&mut shard, Call::Insert(count, count, 7), refused);
+        right &= shard.capacity() == capacity;
+        right &= answers(&mut shard, Call::Find(count, count), Answer::Absent);
+    }
+    for key in 0..count {
+        right &= answers(&mut shard, Call::Insert(key, key, 100), Answer::Number(key));
+        right &= answers(&mut shard, Call::Insert(key, key, key), Answer::Number(100));
+    }
+    if right && has_all(&mut shard, count) {
+        Some(count)
+    } else {
+        None
+    }
 }
 
 #[test]
@@ -146,13 +142,14 @@ fn plain_shards_hand_the_pair_back_and_refuse_no_room_that_is_there(
     let (mut reserved, mut refused) = (false, false);
     for size in 4..80 {
         let heap = LocalHeap::new(rt.alloc(), size * 32)?;
-        if let Ok(mut map) = Shards::new(&heap, 2, Fold::new()) {
-            let again = room_is_had_again(&mut map);
-            reserved |= again == Some(true);
-            let back = refused_of_twelve(&mut map);
-            refused |= back > Some(0);
-            assert!(rt; again != Some(false) && back.is_some(), "of {size}");
-        }
+        let Ok(mut map) = Shards::new(&heap, 2, Fold::new()) else {
+            continue;
+        };
+        let again = room_is_had_again(&mut map);
+        reserved |= again == Some(true);
+        let back = refused_of_twelve(&mut map);
+        refused |= back > Some(0);
+        assert!(rt; again != Some(false) && back.is_some(), "of {size}");
     }
     assert!(rt; reserved && refused);
     Ok(())

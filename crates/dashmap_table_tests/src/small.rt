@@ -19,10 +19,8 @@ fn a_try_tells_what_it_found(rt: HostRuntime) {
 
 #[test]
 fn what_a_try_found_is_shown(rt: HostRuntime) -> Result<(), Fail> {
-    let present: TryResult<u64> = TryResult::Present(5);
-    let absent: TryResult<u64> = TryResult::Absent;
-    let locked: TryResult<u64> = TryResult::Locked;
-    let told = format!(in rt.alloc(); "{present:?} {absent:?} {locked:?}")?;
+    let (absent, locked): (TryResult<u64>, TryResult<u64>) = (TryResult::Absent, TryResult::Locked);
+    let told = format!(in rt.alloc(); "{:?} {absent:?} {locked:?}", TryResult::Present(5u64))?;
     assert!(rt; told.as_str() == "Present(5) Absent Locked");
     Ok(())
 }

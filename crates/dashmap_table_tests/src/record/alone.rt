@@ -15,25 +15,20 @@ pub type Map<R, A> = Numbers<PackedLock<R>, A>;
 /// A map with its callers.
 pub type Made<R, A> = (Map<R, A>, Vec<Caller<u64, u64, A>, A>);
 
-/// A map of two shards with so many callers.
+/// A map with so many shards and callers.
 fn made_of<R: Copy + Drop>(
     rt: R,
     alloc: Global,
+    shards: usize,
     callers: usize,
 ) -> Result<Made<R, Global>, MapFault> {
-    Recorded::new(alloc, 2, Fold::new(), callers, rt)
+    Recorded::new(alloc, shards, Fold::new(), callers, rt)
 }
 
 #[test]
 fn an_odd_amount_of_shards_is_refused(rt: HostRuntime) {
     for shards in [0, 1, 3, 131_072] {
-        let made: Result<Made<HostRuntime, Global>, MapFault> = Recorded::new(
-            rt.alloc(),
-            shards,
-            Fold::new(),
-            2,
-            rt,
-        );
+        let made = made_of(rt, rt.alloc(), shards, 2);
         assert!(rt; made.err() == Some(MapFault::BadShards), "{shards} shards");
     }
 }
@@ -82,7 +77,7 @@ fn gathered<R: Drop>(
 
 #[test]
 fn each_call_is_written_down(rt: HostRuntime) -> Result<(), Fail> {
-    let (map, mut callers) = made_of(rt, rt.alloc(), 1)?;
+    let (map, mut callers) = made_of(rt, rt.alloc(), 2, 1)?;
     let mut me = callers.pop().ok_or("no caller")?;
     let count = replied(&map, &mut me);
     assert!(rt; count == 8 && me.number() == 0 && me.last() == 8, "{count}");
@@ -136,12 +131,8 @@ fn run_again<R: Wait + Copy + Drop>(rt: R, heap: &RefusingHeap<Global>) -> Resul
 
 #[test]
 fn a_call_that_was_refused_a_growth_is_made_again(rt: HostRuntime) -> Result<(), Fail> {
-    let growths = each_growth(
-        rt.alloc(),
-        Refusal::Once(1),
-        100,
-        |heap| run_again(rt, heap),
-    )?;
+    let (alloc, once) = (rt.alloc(), Refusal::Once(1));
+    let growths = each_growth(alloc, once, 100, |heap| run_again(rt, heap))?;
     assert!(rt; growths > 8, "{growths} growths");
     Ok(())
 }
@@ -154,7 +145,7 @@ fn stamp_of_a_look<R: Wait + Drop>(map: &Map<R, Global>, me: &mut Caller<u64, u6
 
 #[test]
 fn stamps_rise_above_both_lasts(rt: HostRuntime) -> Result<(), Fail> {
-    let (map, mut callers) = made_of(rt, rt.alloc(), 2)?;
+    let (map, mut callers) = made_of(rt, rt.alloc(), 2, 2)?;
     let mut second = callers.pop().ok_or("no caller")?;
     let mut first = callers.pop().ok_or("no caller")?;
     let mut right = true;
@@ -208,7 +199,7 @@ fn entries<R: Drop>(map: Map<R, Global>) -> usize {
 
 #[test]
 fn a_caller_without_stamps_adds_nothing(rt: HostRuntime) -> Result<(), Fail> {
-    let (map, _) = made_of(rt, rt.alloc(), 0)?;
+    let (map, _) = made_of(rt, rt.alloc(), 2, 0)?;
     let is_spent = is_spent(&map, Caller::after(rt.alloc(), 0, u64::MAX - 1));
     let is_refused = is_refused(&map, Caller::after(rt.alloc(), 1, 0));
     assert!(rt; is_spent & is_refused & (entries(map) == 1));
