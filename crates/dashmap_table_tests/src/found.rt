@@ -1,19 +1,10 @@
 //! What views find, and which shards make none.
 
-use crate::views::{Fold, Plain, View, empty_shards, put, shard_of, view_if_routed, view_of};
+use crate::views::{Fold, View, empty_shards, put, shard_of, view_if_routed, view_of};
 use dashmap_view::Displaced;
 use std::alloc::Global;
 use std::hash::BuildHasher;
 use std::test::Fail;
-
-/// How many pairs shards have.
-fn pairs_of(shards: &Plain) -> usize {
-    let mut pairs = 0usize;
-    for shard in shards {
-        pairs = pairs.wrapping_add(shard.len());
-    }
-    pairs
-}
 
 #[test]
 fn a_hundred_keys_become_a_view_and_come_back(rt: HostRuntime) -> Result<(), Fail> {
@@ -21,7 +12,11 @@ fn a_hundred_keys_become_a_view_and_come_back(rt: HostRuntime) -> Result<(), Fai
     let mut right = view.len() == 100 && view.shards().len() == 4;
     right &= !view.is_empty() && view.capacity() >= 100;
     let (shards, _) = view.into_parts();
-    assert!(rt; right && pairs_of(&shards) == 100 && shards.len() == 4);
+    let mut pairs = 0usize;
+    for shard in &shards {
+        pairs = pairs.wrapping_add(shard.len());
+    }
+    assert!(rt; right && pairs == 100 && shards.len() == 4);
     Ok(())
 }
 
@@ -50,21 +45,15 @@ fn a_view_finds_its_keys_alone(rt: HostRuntime) -> Result<(), Fail> {
     Ok(())
 }
 
-/// Whether two views find the same keys up to a hundred.
-fn find_the_same(one: &View, other: &View) -> bool {
-    let mut right = true;
-    for key in 0..101 {
-        right &= one.get(&key) == other.get(&key);
-    }
-    right
-}
-
 #[test]
 fn a_clone_of_a_view_finds_what_the_view_finds(rt: HostRuntime) -> Result<(), Fail> {
     let view = view_of(rt.alloc(), 100)?;
     let clone = view.clone()?;
-    assert!(rt; clone.len() == 100 && clone.shards().len() == 4 && view.len() == 100);
-    assert!(rt; find_the_same(&clone, &view));
+    let mut right = clone.len() == 100 && clone.shards().len() == 4 && view.len() == 100;
+    for key in 0..101 {
+        right &= clone.get(&key) == view.get(&key);
+    }
+    assert!(rt; right);
     Ok(())
 }
 
