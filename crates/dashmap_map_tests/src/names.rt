@@ -16,17 +16,23 @@ type Foods<Q> = DashMap<u64, &'static str, SpreadState, Q>;
 /// Numbers by names.
 type Named<Q> = DashMap<&'static str, u64, SpreadState, Q>;
 
-/// Whether closures tell potatoes from other food, where it is there.
+/// Whether the food of a number is a potato, where it is there.
+fn is_potato<Q: RawRwLock>(map: &Foods<Q>, key: u64, me: &mut Q::Party) -> Option<bool>
+where
+    Q::Runtime: Wait,
+{
+    map.view(&key, |_, food| *food == "Potato", me)
+}
+
+/// Whether potatoes are told from other food.
 fn knows_potatoes<Q: RawRwLock>(map: &Foods<Q>, me: &mut Q::Party) -> bool
 where
     Q::Runtime: Wait,
 {
     let mut right = map.insert(9, "Potato", me) == Ok(None);
     right &= map.insert(12, "Chicken", me) == Ok(None);
-    for (key, is_potato) in [(9, Some(true)), (12, Some(false)), (30, None)] {
-        right &= map.view(&key, |_, food| *food == "Potato", me) == is_potato;
-    }
-    right
+    right &= is_potato(map, 9, me) == Some(true) && is_potato(map, 12, me) == Some(false);
+    right && is_potato(map, 30, me).is_none()
 }
 
 #[test]
@@ -35,15 +41,19 @@ fn a_closure_looks_at_a_text(rt: HostRuntime) -> Result<(), Fail> {
     Ok(())
 }
 
+/// Names, with their ages, and those that stay, a year later.
+const NAMES: &[(&str, u64)] = &[("Albin", 15), ("Jones", 22), ("Charlie", 27)];
+
+const OLDER: &[(&str, u64)] = &[("Jones", 23), ("Charlie", 28)];
+
 /// Puts three names in, and says whether they are new.
 fn are_put<Q: RawRwLock>(map: &Named<Q>, me: &mut Q::Party) -> bool
 where
     Q::Runtime: Wait,
 {
-    let names = [("Albin", 15), ("Jones", 22), ("Charlie", 27)];
     let mut right = true;
-    for (name, age) in names {
-        right &= map.insert(name, age, me) == Ok(None);
+    for (name, age) in NAMES {
+        right &= map.insert(*name, *age, me) == Ok(None);
     }
     right
 }
@@ -64,8 +74,8 @@ where
 {
     map.alter_all(|_, age| age.wrapping_add(1), me);
     let mut right = true;
-    for (name, age) in [("Jones", 23), ("Charlie", 28)] {
-        right &= map.remove(&name, me) == Some((name, age));
+    for (name, age) in OLDER {
+        right &= map.remove(name, me) == Some((*name, *age));
     }
     right
 }
