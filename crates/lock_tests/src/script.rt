@@ -10,9 +10,6 @@ use std::process::Abort;
 /// What a call is told, and what it must ask for then.
 pub type Line = (ActResult, Act);
 
-/// The same of a call that may give up.
-pub type TimedLine = (TimedSeen, TimedAct);
-
 /// Acts in a section, and what a call answers.
 pub const CHECK: Act = Act::Section(SectionAct::Check);
 
@@ -83,16 +80,14 @@ pub fn follow_load<C: Core>(rt: &impl Abort, core: C, word: u64, act: Act) {
     follow(rt, core, &lines);
 }
 
-/// It spins beside a reader.
-const SPINS: &[Line] = &[
-    (ActResult::Word(24), Act::Spin),
-    (ActResult::Spun(true), Act::Load),
-];
-
 /// A call that spins ten times beside a reader, and loads the word again each time.
 pub fn spin_beside_a_reader<C: Core>(rt: &impl Abort, mut core: C) -> C {
+    let lines = [
+        (ActResult::Word(24), Act::Spin),
+        (ActResult::Spun(true), Act::Load),
+    ];
     for _round in 0..10 {
-        core = follow(rt, core, SPINS);
+        core = follow(rt, core, &lines);
     }
     core
 }
@@ -107,7 +102,11 @@ pub fn try_in_vain<C: Core>(rt: &impl Abort, core: C, to: u64) {
 }
 
 /// Tells a call that may give up each of these, and looks alike.
-pub fn follow_in_time(rt: &impl Abort, mut core: TimedRwCore, lines: &[TimedLine]) -> TimedRwCore {
+pub fn follow_in_time(
+    rt: &impl Abort,
+    mut core: TimedRwCore,
+    lines: &[(TimedSeen, TimedAct)],
+) -> TimedRwCore {
     for (at, (seen, act)) in lines.iter().enumerate() {
         let is_asked = core.next(*seen) == *act;
         assert!(rt; is_asked, "line {at}");

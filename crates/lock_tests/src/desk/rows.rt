@@ -132,91 +132,87 @@ fn follow<R: RawState + Drop>(rt: &impl Abort, alloc: Global, raw: R, value: u64
 
 const DONE: Result<(), DeskFault> = Ok(());
 
-const KEEPS_READERS_OUT: &[Line] = &[
-    Line::Does(Act::Write, 1, 1, DONE),
-    Line::Does(Act::Read, 2, 2, Err(DeskFault::WouldWait)),
-    Line::Does(Act::TryRead, 2, 2, Err(DeskFault::Taken)),
-    Line::Does(Act::Unlock, 2, 1, Err(DeskFault::NotTheParty)),
-    Line::Does(Act::Unlock, 2, 9, Err(DeskFault::NoSuchGuard)),
-    Line::Does(Act::Upgrade, 1, 1, Err(DeskFault::WrongMode)),
-    Line::Held(1, Some((Mode::Exclusive, 1))),
-    Line::Does(Act::Downgrade, 1, 1, DONE),
-    Line::Does(Act::Read, 2, 1, Err(DeskFault::GuardInUse)),
-    Line::Does(Act::Read, 2, 2, DONE),
-    Line::Held(1, Some((Mode::Shared, 1))),
-    Line::Held(2, Some((Mode::Shared, 2))),
-    Line::Held(3, None),
-];
-
 #[test]
 fn a_writer_keeps_readers_out_until_it_downgrades(rt: HostRuntime) {
-    follow(&rt, rt.alloc(), TokenTable::new(9), 0, KEEPS_READERS_OUT);
-    follow(&rt, rt.alloc(), PackedWord::new(9), 0, KEEPS_READERS_OUT);
+    let script = [
+        Line::Does(Act::Write, 1, 1, DONE),
+        Line::Does(Act::Read, 2, 2, Err(DeskFault::WouldWait)),
+        Line::Does(Act::TryRead, 2, 2, Err(DeskFault::Taken)),
+        Line::Does(Act::Unlock, 2, 1, Err(DeskFault::NotTheParty)),
+        Line::Does(Act::Unlock, 2, 9, Err(DeskFault::NoSuchGuard)),
+        Line::Does(Act::Upgrade, 1, 1, Err(DeskFault::WrongMode)),
+        Line::Held(1, Some((Mode::Exclusive, 1))),
+        Line::Does(Act::Downgrade, 1, 1, DONE),
+        Line::Does(Act::Read, 2, 1, Err(DeskFault::GuardInUse)),
+        Line::Does(Act::Read, 2, 2, DONE),
+        Line::Held(1, Some((Mode::Shared, 1))),
+        Line::Held(2, Some((Mode::Shared, 2))),
+        Line::Held(3, None),
+    ];
+    follow(&rt, rt.alloc(), TokenTable::new(9), 0, &script);
+    follow(&rt, rt.alloc(), PackedWord::new(9), 0, &script);
 }
-
-const IS_SET_ASIDE: &[Line] = &[
-    Line::Does(Act::Write, 1, 1, DONE),
-    Line::Does(Act::TakeUp, 1, 1, Err(DeskFault::WrongMode)),
-    Line::Does(Act::SetAside, 1, 1, DONE),
-    Line::Held(1, None),
-    Line::Does(Act::Read, 2, 1, Err(DeskFault::GuardInUse)),
-    Line::Does(Act::Read, 2, 2, DONE),
-    Line::Does(Act::TakeUp, 1, 1, Err(DeskFault::WouldWait)),
-    Line::Does(Act::TakeUp, 2, 1, Err(DeskFault::NotTheParty)),
-    Line::Does(Act::Unlock, 1, 1, Err(DeskFault::WrongMode)),
-    Line::Does(Act::Unlock, 2, 2, DONE),
-    Line::Does(Act::TakeUp, 1, 1, DONE),
-    Line::Held(1, Some((Mode::Exclusive, 1))),
-];
 
 #[test]
 fn a_guard_set_aside_excludes_nobody(rt: HostRuntime) {
-    follow(&rt, rt.alloc(), TokenTable::new(9), 0, IS_SET_ASIDE);
-    follow(&rt, rt.alloc(), PackedWord::new(9), 0, IS_SET_ASIDE);
+    let script = [
+        Line::Does(Act::Write, 1, 1, DONE),
+        Line::Does(Act::TakeUp, 1, 1, Err(DeskFault::WrongMode)),
+        Line::Does(Act::SetAside, 1, 1, DONE),
+        Line::Held(1, None),
+        Line::Does(Act::Read, 2, 1, Err(DeskFault::GuardInUse)),
+        Line::Does(Act::Read, 2, 2, DONE),
+        Line::Does(Act::TakeUp, 1, 1, Err(DeskFault::WouldWait)),
+        Line::Does(Act::TakeUp, 2, 1, Err(DeskFault::NotTheParty)),
+        Line::Does(Act::Unlock, 1, 1, Err(DeskFault::WrongMode)),
+        Line::Does(Act::Unlock, 2, 2, DONE),
+        Line::Does(Act::TakeUp, 1, 1, DONE),
+        Line::Held(1, Some((Mode::Exclusive, 1))),
+    ];
+    follow(&rt, rt.alloc(), TokenTable::new(9), 0, &script);
+    follow(&rt, rt.alloc(), PackedWord::new(9), 0, &script);
 }
-
-const STAY_WITHIN_ONE: &[Line] = &[
-    Line::Does(Act::Read, 1, 1, DONE),
-    Line::Does(Act::Read, 2, 2, Err(DeskFault::ReadersFull)),
-    Line::Does(Act::TryUpgradableRead, 2, 2, Err(DeskFault::ReadersFull)),
-    Line::Does(Act::Lock, 2, 2, Err(DeskFault::WouldWait)),
-    Line::Does(Act::SetAside, 1, 1, DONE),
-    Line::Does(Act::UpgradableRead, 2, 2, DONE),
-    Line::Does(Act::UpgradableRead, 2, 3, Err(DeskFault::WouldWait)),
-    Line::Does(Act::TakeUp, 1, 1, Err(DeskFault::ReadersFull)),
-    Line::Does(Act::TryUpgrade, 2, 2, DONE),
-    Line::Does(Act::DowngradeToUpgradable, 2, 2, DONE),
-    Line::Does(Act::DowngradeUpgradable, 2, 2, DONE),
-    Line::Does(Act::UnlockFair, 2, 2, DONE),
-    Line::Does(Act::TryLock, 2, 2, DONE),
-    Line::Does(Act::TryWrite, 3, 3, Err(DeskFault::Taken)),
-];
 
 #[test]
 fn readers_stay_within_their_limit(rt: HostRuntime) {
-    follow(&rt, rt.alloc(), TokenTable::new(1), 0, STAY_WITHIN_ONE);
-    follow(&rt, rt.alloc(), TokenTable::new(0), 0, STAY_WITHIN_ONE);
-    follow(&rt, rt.alloc(), PackedWord::new(1), 0, STAY_WITHIN_ONE);
-    follow(&rt, rt.alloc(), PackedWord::new(0), 0, STAY_WITHIN_ONE);
+    let script = [
+        Line::Does(Act::Read, 1, 1, DONE),
+        Line::Does(Act::Read, 2, 2, Err(DeskFault::ReadersFull)),
+        Line::Does(Act::TryUpgradableRead, 2, 2, Err(DeskFault::ReadersFull)),
+        Line::Does(Act::Lock, 2, 2, Err(DeskFault::WouldWait)),
+        Line::Does(Act::SetAside, 1, 1, DONE),
+        Line::Does(Act::UpgradableRead, 2, 2, DONE),
+        Line::Does(Act::UpgradableRead, 2, 3, Err(DeskFault::WouldWait)),
+        Line::Does(Act::TakeUp, 1, 1, Err(DeskFault::ReadersFull)),
+        Line::Does(Act::TryUpgrade, 2, 2, DONE),
+        Line::Does(Act::DowngradeToUpgradable, 2, 2, DONE),
+        Line::Does(Act::DowngradeUpgradable, 2, 2, DONE),
+        Line::Does(Act::UnlockFair, 2, 2, DONE),
+        Line::Does(Act::TryLock, 2, 2, DONE),
+        Line::Does(Act::TryWrite, 3, 3, Err(DeskFault::Taken)),
+    ];
+    follow(&rt, rt.alloc(), TokenTable::new(1), 0, &script);
+    follow(&rt, rt.alloc(), TokenTable::new(0), 0, &script);
+    follow(&rt, rt.alloc(), PackedWord::new(1), 0, &script);
+    follow(&rt, rt.alloc(), PackedWord::new(0), 0, &script);
 }
-
-const REACHES_THE_VALUE: &[Line] = &[
-    Line::Does(Act::UpgradableRead, 1, 1, DONE),
-    Line::Reads(1, 1, Ok(5)),
-    Line::Writes(1, 1, 6, Err(DeskFault::WrongMode)),
-    Line::Flips(1, 1, 15, Ok(10)),
-    Line::Held(1, Some((Mode::Upgradable, 1))),
-    Line::Does(Act::Read, 2, 2, DONE),
-    Line::TriesToClear(1, 1, Err(DeskFault::Taken)),
-    Line::Does(Act::Unlock, 2, 2, DONE),
-    Line::Does(Act::Upgrade, 1, 1, DONE),
-    Line::Writes(1, 1, 7, Ok(10)),
-    Line::Does(Act::Bump, 1, 1, DONE),
-    Line::Value(7),
-];
 
 #[test]
 fn a_guard_reaches_the_value_by_its_mode(rt: HostRuntime) {
-    follow(&rt, rt.alloc(), TokenTable::new(9), 5, REACHES_THE_VALUE);
-    follow(&rt, rt.alloc(), PackedWord::new(9), 5, REACHES_THE_VALUE);
+    let script = [
+        Line::Does(Act::UpgradableRead, 1, 1, DONE),
+        Line::Reads(1, 1, Ok(5)),
+        Line::Writes(1, 1, 6, Err(DeskFault::WrongMode)),
+        Line::Flips(1, 1, 15, Ok(10)),
+        Line::Held(1, Some((Mode::Upgradable, 1))),
+        Line::Does(Act::Read, 2, 2, DONE),
+        Line::TriesToClear(1, 1, Err(DeskFault::Taken)),
+        Line::Does(Act::Unlock, 2, 2, DONE),
+        Line::Does(Act::Upgrade, 1, 1, DONE),
+        Line::Writes(1, 1, 7, Ok(10)),
+        Line::Does(Act::Bump, 1, 1, DONE),
+        Line::Value(7),
+    ];
+    follow(&rt, rt.alloc(), TokenTable::new(9), 5, &script);
+    follow(&rt, rt.alloc(), PackedWord::new(9), 5, &script);
 }
