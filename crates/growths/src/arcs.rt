@@ -158,39 +158,67 @@ fn in_arc<T: Drop, E: Drop>(heap: &Heap, lock: Result<T, E>) -> Option<Arc<T, &H
     }
 }
 
-fn on_mutex<R: Wait + Clock + Copy + Drop>(rt: R, heap: &Heap, ask: Ask) -> Option<Seen> {
-    let now = Instant::now(&rt).ok()?;
+fn on_mutex<R: Wait + Clock + Copy + Drop>(
+    rt: R,
+    heap: &Heap,
+    ask: Ask,
+    now: Instant,
+) -> Option<Seen> {
     let mutex: Mutual<'_, PackedMutex<R>> = in_arc(heap, Mutex::new(rt, 5))?;
     let before = heap.asked();
     lock(&rt, &mutex, ask, now, &mut 1).seen(heap, before, !mutex.is_locked())
 }
 
-fn on_nested<R: Wait + Clock + Copy + Drop>(rt: R, heap: &Heap, ask: Ask) -> Option<Seen> {
-    let now = Instant::now(&rt).ok()?;
+fn on_nested<R: Wait + Clock + Copy + Drop>(
+    rt: R,
+    heap: &Heap,
+    ask: Ask,
+    now: Instant,
+) -> Option<Seen> {
     let mutex: Nested<'_, PackedMutex<R>, Parties> = in_arc(heap, ReentrantMutex::new(rt, 2, 5))?;
     let before = heap.asked();
     nest(&rt, &mutex, ask, now, &mut 1).seen(heap, before, !mutex.is_locked())
 }
 
-fn on_lock<R: Wait + Clock + Copy + Drop>(rt: R, heap: &Heap, call: OfArc) -> Option<Seen> {
-    let now = Instant::now(&rt).ok()?;
+fn ask_lock<
+    Q: RawRwLockUpgradeTimed<Duration = Duration, Instant = Instant> + Drop,
+    C: Clock,
+>(
+    clock: &C,
+    lock: &Shared<'_, Q>,
+    call: OfArc,
+    now: Instant,
+    party: &mut Q::Party,
+) -> Said
+where
+    Q::Runtime: Wait,
+{
+    match call {
+        OfArc::Reads(ask) => read(clock, lock, ask, now, party),
+        OfArc::Writes(ask) => write(clock, lock, ask, now, party),
+        OfArc::Upgrades(ask) => upgrade(clock, lock, ask, now, party),
+        _ => Said::Other,
+    }
+}
+
+fn on_lock<R: Wait + Clock + Copy + Drop>(
+    rt: R,
+    heap: &Heap,
+    call: OfArc,
+    now: Instant,
+) -> Option<Seen> {
     let lock: Shared<'_, PackedLock<R>> = in_arc(heap, RwLock::new(rt, 4, 5))?;
     let before = heap.asked();
-    let said = match call {
-        OfArc::Reads(ask) => read(&rt, &lock, ask, now, &mut 1),
-        OfArc::Writes(ask) => write(&rt, &lock, ask, now, &mut 1),
-        OfArc::Upgrades(ask) => upgrade(&rt, &lock, ask, now, &mut 1),
-        _ => Said::Other,
-    };
-    said.seen(heap, before, !lock.is_locked())
+    ask_lock(&rt, &lock, call, now, &mut 1).seen(heap, before, !lock.is_locked())
 }
 
 impl<R: Wait + Clock + Copy + Drop> Case<R> for OfArc {
     fn run(self, rt: R, heap: &Heap) -> Option<Seen> {
+        let now = Instant::now(&rt).ok()?;
         match self {
-            OfArc::Locks(ask) => on_mutex(rt, heap, ask),
-            OfArc::Nests(ask) => on_nested(rt, heap, ask),
-            _ => on_lock(rt, heap, self),
+            OfArc::Locks(ask) => on_mutex(rt, heap, ask, now),
+            OfArc::Nests(ask) => on_nested(rt, heap, ask, now),
+            _ => on_lock(rt, heap, self, now),
         }
     }
 }

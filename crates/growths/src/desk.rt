@@ -57,15 +57,6 @@ fn is_free(desk: &mut Small<'_>) -> bool {
     is_let_in && desk.unlock(7, 70) == Ok(())
 }
 
-/// Makes a call that isn't a list, and looks at the desk.
-fn ask(heap: &Heap, desk: &mut Small<'_>, call: Call, before: u64) -> Option<Seen> {
-    let said = made(desk, call);
-    let behind = heap.asked();
-    let is_short = said == Err(DeskFault::NoMemory) && is_free(desk);
-    let said = Said::of(said == Ok(()), is_short);
-    Seen::of(before, behind, said.fits(heap) && *desk.value() == 5)
-}
-
 /// What came of a list: as many reads as it tells were made and hold, and no others.
 fn of_run(desk: &Small<'_>, said: Result<(), DeskRunFault>) -> Said {
     match said {
@@ -79,23 +70,37 @@ fn of_run(desk: &Small<'_>, said: Result<(), DeskRunFault>) -> Said {
     }
 }
 
-/// Runs a list of reads on a new desk.
-fn run_reads(heap: &Heap) -> Option<Seen> {
+/// The reads of the guards 1, 2, ..
+fn reads(heap: &Heap) -> Option<Vec<DeskCall<u64>, &Heap>> {
     let mut calls = Vec::new(heap);
     for guard in 1..LISTED + 1 {
         calls.push(DeskCall::Read(1, guard)).ok()?;
     }
+    Some(calls)
+}
+
+/// Runs a list of reads.
+fn run_reads<'h>(heap: &'h Heap, desk: &mut Small<'h>) -> Option<Seen> {
+    let calls = reads(heap)?;
     let before = heap.asked();
-    let mut desk: Small<'_> = Desk::new(heap, TokenTable::new(99), 5);
     let said = desk.run(calls);
-    of_run(&desk, said).seen(heap, before, true)
+    of_run(desk, said).seen(heap, before, true)
+}
+
+/// Makes a call, and looks at the desk. So many growths were asked for before it was made.
+fn ask<'h>(heap: &'h Heap, desk: &mut Small<'h>, call: Call, before: u64) -> Option<Seen> {
+    if let Call::Run = call {
+        return run_reads(heap, desk);
+    }
+    let said = made(desk, call);
+    let behind = heap.asked();
+    let is_short = said == Err(DeskFault::NoMemory) && is_free(desk);
+    let said = Said::of(said == Ok(()), is_short);
+    Seen::of(before, behind, said.fits(heap) && *desk.value() == 5)
 }
 
 impl<R: Drop> Case<R> for Call {
     fn run(self, _rt: R, heap: &Heap) -> Option<Seen> {
-        if let Call::Run = self {
-            return run_reads(heap);
-        }
         let before = heap.asked();
         let mut desk: Small<'_> = Desk::new(heap, TokenTable::new(99), 5);
         ask(heap, &mut desk, self, before)

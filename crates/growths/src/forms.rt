@@ -67,13 +67,12 @@ fn collect_view<Q: RawRwLock + Drop, R: Threads + Sync>(
     heap: &Heap,
     rt: &R,
     view: View<'_, Q>,
-) -> Said {
+) -> Option<Seen> {
+    let before = heap.asked();
     let walk = view.into_par_iter();
-    listed(
-        walk.map_collect(rt, heap, |key: u64, _: u64| key),
-        2,
-        NoMemory,
-    )
+    let list = walk.map_collect(rt, heap, |key: u64, _: u64| key);
+    let said = listed(list, 2, NoMemory);
+    Seen::of(before, heap.asked(), said.may_fit(heap))
 }
 
 /// What came of a call on a view.
@@ -110,6 +109,19 @@ fn ask_view<Q: RawRwLock + MakeLock<T> + Drop, T: Copy + Drop, R: Threads + Sync
     Seen::of(before, behind, is_right)
 }
 
+/// A view of the keys 0 and 1.
+fn view_of<'h, Q: RawRwLock + MakeLock<T> + Drop, T: Rows + Drop>(
+    heap: &'h Heap,
+    table: T,
+    me: &mut Q::Party,
+) -> Option<View<'h, Q>>
+where
+    Q::Runtime: Wait,
+{
+    let map: Map<'h, Q> = two(heap, table, me)?;
+    map.into_read_only().ok()
+}
+
 /// Makes a call on a view, or collects the keys of one that goes.
 pub fn with_view<Q: RawRwLock + MakeLock<T> + Drop, T: Rows + Drop, R: Threads + Sync>(
     heap: &Heap,
@@ -121,14 +133,11 @@ pub fn with_view<Q: RawRwLock + MakeLock<T> + Drop, T: Rows + Drop, R: Threads +
 where
     Q::Runtime: Wait,
 {
-    let map: Map<'_, Q> = two(heap, table, me)?;
-    let view = map.into_read_only().ok()?;
-    if let Viewed::OwnedMapCollect = call {
-        let before = heap.asked();
-        let said = collect_view(heap, rt, view);
-        return Seen::of(before, heap.asked(), said.may_fit(heap));
+    let view: View<'_, Q> = view_of(heap, table, me)?;
+    match call {
+        Viewed::OwnedMapCollect => collect_view(heap, rt, view),
+        _ => ask_view(heap, table, rt, &view, call),
     }
-    ask_view(heap, table, rt, &view, call)
 }
 
 const COLLECT: On<'static> = On::View(Viewed::MapCollect);

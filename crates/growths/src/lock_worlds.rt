@@ -62,16 +62,23 @@ fn look(heap: &Heap, world: &mut Small<'_>, call: Call) -> Option<Seen> {
     Seen::of(before, behind, said.may_fit(heap) && is_played && is_kept)
 }
 
+/// A world of three threads and locks of these kinds, and how many growths were asked for before.
+fn world_of<'h>(heap: &'h Heap, kinds: Kinds) -> Option<(u64, Result<Small<'h>, SizeFault>)> {
+    let kinds = Vec::from_slice(heap, kinds).ok()?;
+    Some((heap.asked(), World::new(heap, 3, kinds)))
+}
+
+fn make_world(heap: &Heap, kinds: Kinds) -> Option<Seen> {
+    let (before, world) = world_of(heap, kinds)?;
+    made(world, SizeFault::NoMemory).seen(heap, before, true)
+}
+
 impl<R: Drop> Case<R> for Call {
     fn run(self, _rt: R, heap: &Heap) -> Option<Seen> {
-        if let Call::New(kinds) = self {
-            let kinds = Vec::from_slice(heap, kinds).ok()?;
-            let before = heap.asked();
-            let world = World::new(heap, 3, kinds);
-            return made(world, SizeFault::NoMemory).seen(heap, before, true);
+        match self {
+            Call::New(kinds) => make_world(heap, kinds),
+            _ => look(heap, &mut world_of(heap, EACH)?.1.ok()?, self),
         }
-        let kinds = Vec::from_slice(heap, EACH).ok()?;
-        look(heap, &mut World::new(heap, 3, kinds).ok()?, self)
     }
 }
 

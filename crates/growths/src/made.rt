@@ -71,16 +71,19 @@ fn map_by<'h, Q: RawRwLock + MakeLock<T> + Drop, T: Copy + Drop>(
     }
 }
 
-fn map_of<'h, Q: RawRwLock + MakeLock<T> + Drop, T: Copy + Drop>(
-    heap: &'h Heap,
+/// Makes a map of pairs.
+fn map_of<Q: RawRwLock + MakeLock<T> + Drop, T: Rows + Drop>(
+    heap: &Heap,
     table: T,
     make: Make,
-    pairs: Vec<(u64, u64), &'h Heap>,
-) -> Made<Map<'h, SpreadState, Q>> {
-    match make {
-        Make::Iter => DashMap::from_iter(heap, pairs.into_iter(), SpreadState, 1, table),
-        _ => from_par_iter(heap, pairs, SpreadState, 1, table),
-    }
+) -> Option<Seen> {
+    let (pairs, by) = (pairs(heap)?, SpreadState);
+    let before = heap.asked();
+    let map: Made<Map<'_, SpreadState, Q>> = match make {
+        Make::Iter => DashMap::from_iter(heap, pairs.into_iter(), by, 1, table),
+        _ => from_par_iter(heap, pairs, by, 1, table),
+    };
+    made(map, MapFault::NoMemory).seen(heap, before, table.are_taken(TAKEN))
 }
 
 /// Makes a map. The rows that it took stay used, of a refused one too.
@@ -92,17 +95,13 @@ pub fn make_map<Q: RawRwLock + MakeLock<T> + Drop, T: Rows + Drop>(
 where
     Q::Runtime: RandomSource,
 {
-    let pairs = pairs(heap)?;
     let before = heap.asked();
     let said = match make {
         Make::New | Make::WithCapacity | Make::WithShards | Make::WithBoth => made(
             new_map::<Q, T>(heap, table, make),
             NewFault::Map(MapFault::NoMemory),
         ),
-        Make::Iter | Make::ParIter => made(
-            map_of::<Q, T>(heap, table, make, pairs),
-            MapFault::NoMemory,
-        ),
+        Make::Iter | Make::ParIter => return map_of::<Q, T>(heap, table, make),
         _ => made(map_by::<Q, T>(heap, table, make), MapFault::NoMemory),
     };
     said.seen(heap, before, table.are_taken(TAKEN))
@@ -134,16 +133,19 @@ fn set_by<'h, Q: RawRwLock + MakeLock<T> + Drop, T: Copy + Drop>(
     }
 }
 
-fn set_of<'h, Q: RawRwLock + MakeLock<T> + Drop, T: Copy + Drop>(
-    heap: &'h Heap,
+/// Makes a set of keys.
+fn set_of<Q: RawRwLock + MakeLock<T> + Drop, T: Rows + Drop>(
+    heap: &Heap,
     table: T,
     make: Make,
-    keys: Vec<u64, &'h Heap>,
-) -> Made<Set<'h, SpreadState, Q>> {
-    match make {
-        Make::Iter => DashSet::from_iter(heap, keys.into_iter(), SpreadState, 1, table),
-        _ => DashSet::from_par_iter(heap, keys, SpreadState, 1, table),
-    }
+) -> Option<Seen> {
+    let (keys, by) = (keys(heap)?, SpreadState);
+    let before = heap.asked();
+    let set: Made<Set<'_, SpreadState, Q>> = match make {
+        Make::Iter => DashSet::from_iter(heap, keys.into_iter(), by, 1, table),
+        _ => DashSet::from_par_iter(heap, keys, by, 1, table),
+    };
+    made(set, MapFault::NoMemory).seen(heap, before, table.are_taken(TAKEN))
 }
 
 /// Makes a set, as a map is made.
@@ -155,17 +157,13 @@ pub fn make_set<Q: RawRwLock + MakeLock<T> + Drop, T: Rows + Drop>(
 where
     Q::Runtime: RandomSource,
 {
-    let keys = keys(heap)?;
     let before = heap.asked();
     let said = match make {
         Make::New | Make::WithCapacity => made(
             new_set::<Q, T>(heap, table, make),
             NewFault::Map(MapFault::NoMemory),
         ),
-        Make::Iter | Make::ParIter => made(
-            set_of::<Q, T>(heap, table, make, keys),
-            MapFault::NoMemory,
-        ),
+        Make::Iter | Make::ParIter => return set_of::<Q, T>(heap, table, make),
         _ => made(set_by::<Q, T>(heap, table, make), MapFault::NoMemory),
     };
     said.seen(heap, before, table.are_taken(TAKEN))

@@ -26,20 +26,38 @@ pub struct Played(
 type Programs<'h> = Vec<Vec<Asked, &'h Heap>, &'h Heap>;
 
 fn program_in<'h>(heap: &'h Heap, program: Vec<Asked>) -> Option<Vec<Asked, &'h Heap>> {
-    let mut moved = Vec::new(heap);
+    let (mut moved, mut is_moved) = (Vec::new(heap), true);
     for ask in program {
-        moved.push(ask).ok()?;
+        is_moved &= moved.push(ask).is_ok();
     }
-    Some(moved)
+    match is_moved {
+        true => Some(moved),
+        false => None,
+    }
+}
+
+/// Adds a program to those in the heap.
+fn add<'h>(heap: &'h Heap, programs: &mut Programs<'h>, program: Vec<Asked>) -> bool {
+    match program_in(heap, program) {
+        Some(program) => programs.push(program).is_ok(),
+        None => false,
+    }
+}
+
+/// The programs of a text.
+fn programs_of(alloc: Global, text: &str) -> Option<Vec<Vec<Asked>>> {
+    Some(read(alloc, text).ok()?.pop()?.programs)
 }
 
 fn programs_in<'h>(heap: &'h Heap, text: &str) -> Option<Programs<'h>> {
-    let programs = read(*heap.inner(), text).ok()?.pop()?.programs;
-    let mut moved = Vec::new(heap);
-    for program in programs {
-        moved.push(program_in(heap, program)?).ok()?;
+    let (mut moved, mut are_moved) = (Vec::new(heap), true);
+    for program in programs_of(*heap.inner(), text)? {
+        are_moved &= add(heap, &mut moved, program);
     }
-    Some(moved)
+    match are_moved {
+        true => Some(moved),
+        false => None,
+    }
 }
 
 /// Pairs in the heap: these keys, each with 0.

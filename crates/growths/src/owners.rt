@@ -168,15 +168,47 @@ fn insert_until<Q: RawRwLockTimed<Instant = Instant>, R: Clock>(
     rt: &R,
     map: &Map<'_, Q>,
     me: &mut Q::Party,
-    moment: Instant,
-) -> Came
+) -> Option<Came>
 where
     Q::Runtime: Wait,
 {
-    match map.insert_until(5, 7, moment, rt, me) {
+    let moment = Instant::now(rt).ok()?;
+    Some(match map.insert_until(5, 7, moment, rt, me) {
         Ok(old) => Came::Inserted(Ok(old)),
         Err(UntilFault::NoMemory(pair)) => Came::Inserted(Err(pair)),
         Err(UntilFault::Locked(_)) => Came::Other(Said::Other),
+    })
+}
+
+/// Makes the call. Answers how many growths were asked for before, too.
+fn make_any<
+    'h,
+    Q: RawRwLockTimed<Instant = Instant> + MakeLock<T> + Drop + Sync,
+    T: Copy + Drop,
+    R: Threads + Clock + Sync,
+>(
+    heap: &'h Heap,
+    rt: &R,
+    table: T,
+    map: &mut Map<'h, Q>,
+    team: &mut Team<Q::Party>,
+    call: Owned,
+) -> Option<(u64, Came)>
+where
+    Q::Runtime: Wait,
+    Q::Party: Send,
+{
+    let before = heap.asked();
+    match call {
+        Owned::Extend | Owned::ParExtend | Owned::ParExtendShared => {
+            extend(heap, rt, map, &mut team.others, call)
+        }
+        Owned::InsertUntil => Some((before, insert_until(rt, map, &mut team.me)?)),
+        Owned::MapCollect => {
+            let said = collect(heap, rt, map, &mut team.others);
+            Some((before, Came::Other(said)))
+        }
+        _ => Some((before, make_call(heap, table, map, &mut team.me, call))),
     }
 }
 
@@ -199,21 +231,9 @@ where
     Q::Runtime: Wait,
     Q::Party: Send,
 {
-    let now = Instant::now(rt).ok()?;
     let is_empty = matches!(call, Owned::InsertMut | Owned::InsertUntil);
     put(map, if is_empty { 0 } else { 2 }, &mut team.me);
-    let before = heap.asked();
-    let (before, came) = match call {
-        Owned::Extend | Owned::ParExtend | Owned::ParExtendShared => {
-            extend(heap, rt, map, &mut team.others, call)?
-        }
-        Owned::InsertUntil => (before, insert_until(rt, map, &mut team.me, now)),
-        Owned::MapCollect => (
-            before,
-            Came::Other(collect(heap, rt, map, &mut team.others)),
-        ),
-        _ => (before, make_call(heap, table, map, &mut team.me, call)),
-    };
+    let (before, came) = make_any(heap, rt, table, map, team, call)?;
     let behind = heap.asked();
     let rows = if let Owned::Clone = call { 4 } else { 2 };
     let stands = table.are_taken(rows) && compared(map, came, &mut team.me).fits(heap);

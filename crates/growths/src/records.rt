@@ -26,10 +26,26 @@ type Reply = Result<CallReply<u64, u64>, RecordFault>;
 pub struct OnRecord<'a>(&'a [Call<u64, u64>], Call<u64, u64>, CallReply<u64, u64>);
 
 /// The reply of a value that may be there.
-fn of_value(said: Option<u64>) -> CallReply<u64, u64> {
+fn of_value(said: Result<Option<u64>, RecordFault>) -> Reply {
     match said {
-        Some(value) => CallReply::Value(value),
-        None => CallReply::None,
+        Ok(Some(value)) => Ok(CallReply::Value(value)),
+        Ok(None) => Ok(CallReply::None),
+        Err(fault) => Err(fault),
+    }
+}
+
+fn of_flag(said: Result<bool, RecordFault>) -> Reply {
+    match said {
+        Ok(flag) => Ok(CallReply::Flag(flag)),
+        Err(fault) => Err(fault),
+    }
+}
+
+fn of_pair(said: Result<Option<(u64, u64)>, RecordFault>) -> Reply {
+    match said {
+        Ok(Some((key, value))) => Ok(CallReply::Pair(key, value)),
+        Ok(None) => Ok(CallReply::None),
+        Err(fault) => Err(fault),
     }
 }
 
@@ -44,15 +60,18 @@ where
     Q::Runtime: Wait,
 {
     match call {
-        Call::Insert(key, value) => Ok(of_value(map.insert(key, value, me, td)?)),
-        Call::GetCopied(key) => Ok(of_value(map.get_copied(&key, me, td)?)),
-        Call::ReplaceIf(key, old, new) => {
-            Ok(CallReply::Flag(map.replace_if(&key, old, new, me, td)?))
-        }
-        Call::Remove(key) => match map.remove(&key, me, td)? {
-            Some((key, value)) => Ok(CallReply::Pair(key, value)),
-            None => Ok(CallReply::None),
-        },
+        Call::Insert(key, value) => of_value(map.insert(key, value, me, td)),
+        Call::GetCopied(key) => of_value(map.get_copied(&key, me, td)),
+        Call::ReplaceIf(key, old, new) => of_flag(map.replace_if(&key, old, new, me, td)),
+        Call::Remove(key) => of_pair(map.remove(&key, me, td)),
+    }
+}
+
+/// What came of a call that is to have this reply.
+fn said_of(reply: Reply, done: CallReply<u64, u64>) -> Said {
+    match reply {
+        Ok(reply) => Said::of(reply == done, false),
+        Err(fault) => Said::of(false, fault == RecordFault::NoMemory),
     }
 }
 
@@ -69,19 +88,36 @@ where
     count
 }
 
+/// Makes calls, and answers whether each was done.
 fn make_all<'h, Q: RawRwLock>(
     map: &Small<'h, Q>,
     calls: &[Call<u64, u64>],
     me: &mut Me<'h>,
     td: &mut Q::Party,
-) -> Option<()>
+) -> bool
 where
     Q::Runtime: Wait,
 {
+    let mut are_done = true;
     for call in calls {
-        make(map, *call, me, td).ok()?;
+        are_done &= make(map, *call, me, td).is_ok();
     }
-    Some(())
+    are_done
+}
+
+/// Whether a refused call has left no entry, of so many before and this last one, and is done when it is made again.
+fn is_kept<'h, Q: RawRwLock>(
+    map: &Small<'h, Q>,
+    (last, count): (u64, usize),
+    me: &mut Me<'h>,
+    td: &mut Q::Party,
+    call: OnRecord<'_>,
+) -> bool
+where
+    Q::Runtime: Wait,
+{
+    let has_none = me.last() == last && entries(map, td) == count;
+    has_none && said_of(make(map, call.1, me, td), call.2) == Said::Done
 }
 
 /// Makes the call. A refused one is made again, and is answered then as if it hadn't been made before. What stands is
@@ -97,32 +133,41 @@ fn ask<'h, Q: RawRwLock, T: Rows + Drop>(
 where
     Q::Runtime: Wait,
 {
-    let OnRecord(others, call, done) = call;
-    make_all(map, others, me, td)?;
+    if !make_all(map, call.0, me, td) {
+        return None;
+    }
     let (last, count) = (me.last(), entries(map, td));
     let before = heap.asked();
-    let said = make(map, call, me, td);
+    let said = said_of(make(map, call.1, me, td), call.2);
     let behind = heap.asked();
-    let is_short = table.are_free() && said == Err(RecordFault::NoMemory);
-    let is_kept = is_short && me.last() == last && entries(map, td) == count;
-    let is_made = is_kept && make(map, call, me, td) == Ok(done);
-    let stood = table.are_free() && Said::of(said == Ok(done), is_made).fits(heap);
-    let is_right = stood && entries(map, td) == count.wrapping_add(1);
-    Seen::of(before, behind, is_right)
+    let stood = table.are_free() && said.fits(heap);
+    let is_made = said == Said::Done || (stood && is_kept(map, (last, count), me, td, call));
+    let stands = stood && is_made && table.are_free();
+    Seen::of(before, behind, stands && entries(map, td) == count.wrapping_add(1))
 }
 
-/// Gathers what was written down by the only caller. Answers how many growths were asked for before, too.
-fn gather_all<'h>(
+/// Gathers these entries. Answers how many growths were asked for before, too.
+fn gather_lists<'h>(
     heap: &'h Heap,
     histories: Vec<List<'h>, &'h Heap>,
-    log: List<'h>,
+    logs: Vec<List<'h>, &'h Heap>,
+    count: usize,
+) -> (u64, Said) {
+    let before = heap.asked();
+    let list = gather(heap, histories, logs, &Fold::new());
+    (before, listed(list, count, GatherFault::NoMemory))
+}
+
+/// Gathers what was written down by the only caller.
+fn gather_all<'h, Q: RawRwLock + Drop>(
+    heap: &'h Heap,
+    map: Small<'h, Q>,
+    me: Me<'h>,
     count: usize,
 ) -> Option<(u64, Said)> {
     let mut logs = Vec::new(heap);
-    logs.push(log).ok()?;
-    let before = heap.asked();
-    let list = gather(heap, histories, logs, &Fold::new());
-    Some((before, listed(list, count, GatherFault::NoMemory)))
+    logs.push(me.log()).ok()?;
+    Some(gather_lists(heap, map.histories(), logs, count))
 }
 
 /// A new recorded map, and its only caller.
@@ -145,25 +190,21 @@ where
     Q::Runtime: Wait,
 {
     let (map, mut me): (Small<'_, Q>, Me<'_>) = recorded(heap, table)?;
-    let seen = ask(heap, table, &map, &mut me, td, call)?;
-    let count = call.0.len().wrapping_add(1);
-    let (_, said) = gather_all(heap, map.histories(), me.log(), count)?;
-    seen.and(said == Said::Done)
+    let seen = ask(heap, table, &map, &mut me, td, call);
+    let gathered = gather_all(heap, map, me, call.0.len().wrapping_add(1));
+    seen?.and(gathered?.1 == Said::Done)
 }
 
 /// Makes twelve calls.
-fn make_twelve<'h, Q: RawRwLock>(
-    map: &Small<'h, Q>,
-    me: &mut Me<'h>,
-    td: &mut Q::Party,
-) -> Option<()>
+fn make_twelve<'h, Q: RawRwLock>(map: &Small<'h, Q>, me: &mut Me<'h>, td: &mut Q::Party) -> bool
 where
     Q::Runtime: Wait,
 {
+    let mut are_done = true;
     for key in 0..6 {
-        make_all(map, &[Call::Insert(key, key), Call::GetCopied(key)], me, td)?;
+        are_done &= make_all(map, &[Call::Insert(key, key), Call::GetCopied(key)], me, td);
     }
-    Some(())
+    are_done
 }
 
 /// Makes twelve calls, and gathers what was written down of them.
@@ -176,9 +217,9 @@ where
     Q::Runtime: Wait,
 {
     let (map, mut me): (Small<'_, Q>, Me<'_>) = recorded(heap, table)?;
-    make_twelve(&map, &mut me, td)?;
-    let (before, said) = gather_all(heap, map.histories(), me.log(), 12)?;
-    said.seen(heap, before, true)
+    let are_done = make_twelve(&map, &mut me, td);
+    let (before, said) = gather_all(heap, map, me, 12)?;
+    said.seen(heap, before, are_done)
 }
 
 /// Makes a recorded map. The rows that it took stay used, of a refused one too.

@@ -10,7 +10,7 @@ use dashmap_calls::{Answer, Call, Many, Numbers, make as answer};
 use dashmap_map::DashMap;
 use dashmap_table::{MapFault, SpreadState};
 use lock_api_raw::{MakeLock, RawRwLock, RawRwLockTimed};
-use parking_lot_core::ParkingLot;
+use parking_lot_core::{ParkingLot, ThreadData};
 use parking_lot_rwlock::{self as running, LockTable};
 use refusing_heap::{Heap, Line, Refusal, RefusingHeap, Seen, Wrong, print_line};
 use std::alloc::{Allocator, Global};
@@ -167,6 +167,14 @@ where
     }
 }
 
+/// Registers one more thread.
+fn add<R: Wait>(lot: &ParkingLot<R>, others: &mut Vec<ThreadData>) -> bool {
+    match lot.thread_data() {
+        Ok(other) => others.push(other).is_ok(),
+        Err(_) => false,
+    }
+}
+
 /// Makes a call over a table, by a thread or two others.
 fn over<R: Wait + Threads + Clock + RandomSource + Sync + Send>(
     heap: &Heap,
@@ -175,11 +183,11 @@ fn over<R: Wait + Threads + Clock + RandomSource + Sync + Send>(
 ) -> Option<Seen> {
     let lot = table.lot();
     let me = lot.thread_data().ok()?;
-    let others = Vec::new(*heap.inner());
+    let mut others = Vec::new(*heap.inner());
+    let are_two = add(lot, &mut others) && add(lot, &mut others);
     let mut team = Team { me, others };
-    team.others.push(lot.thread_data().ok()?).ok()?;
-    team.others.push(lot.thread_data().ok()?).ok()?;
-    ask(heap, lot.runtime(), table, &mut team, call)
+    let seen = ask(heap, lot.runtime(), table, &mut team, call);
+    seen?.and(are_two)
 }
 
 fn run<R: Wait + Threads + Clock + RandomSource + Sync + Send + Copy + Drop>(
@@ -192,23 +200,37 @@ fn run<R: Wait + Threads + Clock + RandomSource + Sync + Send + Copy + Drop>(
     over(heap, &table, call)
 }
 
+/// Makes the call in memory of this refusal. Answers how many growths were refused, too.
+fn run_under<R: Wait + Threads + Clock + RandomSource + Sync + Send + Copy + Drop>(
+    rt: R,
+    alloc: Global,
+    refusal: Refusal,
+    call: On<'_>,
+) -> Option<(Seen, u64)> {
+    let heap = RefusingHeap::new(alloc, refusal);
+    match run(rt, &heap, call) {
+        Some(seen) => Some((seen, heap.refused())),
+        None => None,
+    }
+}
+
 /// As `make_in_turn`. These calls are no `Case`, since what some send to threads rests on bounds that a case hasn't.
 fn run_in_turn<R: Wait + Threads + Clock + RandomSource + Sync + Send + Copy + Drop>(
     rt: R,
     alloc: Global,
     call: On<'_>,
 ) -> Result<u64, Wrong> {
-    let seen = run(rt, &RefusingHeap::new(alloc, Refusal::Never), call).ok_or(Wrong::Unprepared)?;
+    let (seen, _) = run_under(rt, alloc, Refusal::Never, call).ok_or(Wrong::Unprepared)?;
     if !seen.stood {
         return Err(Wrong::Ample);
     }
     let growths = seen.behind.saturating_sub(seen.before);
     for growth in 0..growths {
         let number = seen.before.saturating_add(growth).saturating_add(1);
-        let heap = RefusingHeap::new(alloc, Refusal::Once(number));
-        let stood = run(rt, &heap, call).ok_or(Wrong::Unprepared)?.stood;
-        if !stood || heap.refused() != 1 {
-            return Err(Wrong::Refused(growth.saturating_add(1)));
+        match run_under(rt, alloc, Refusal::Once(number), call) {
+            Some((seen, 1)) if seen.stood => {}
+            Some(_) => return Err(Wrong::Refused(growth.saturating_add(1))),
+            None => return Err(Wrong::Unprepared),
         }
     }
     Ok(growths)

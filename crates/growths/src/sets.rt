@@ -155,23 +155,46 @@ where
     Some((before, came))
 }
 
-/// Puts keys in, and takes some of them out again. Answers how many of the keys 0, 1, .. stay.
-fn prepare<Q: RawRwLock>(set: &Set<'_, Q>, me: &mut Q::Party, call: OnSet) -> Option<u64>
+/// How many of the keys 0, 1, .. are there before a call.
+fn before(call: OnSet) -> u64 {
+    match call {
+        OnSet::Insert | OnSet::InsertMut => 0,
+        _ => 2,
+    }
+}
+
+/// Puts so many keys in.
+fn put<Q: RawRwLock>(set: &Set<'_, Q>, keys: u64, me: &mut Q::Party) -> bool
 where
     Q::Runtime: Wait,
 {
-    let (keys, most) = match call {
-        OnSet::Insert | OnSet::InsertMut => (0, 0),
-        OnSet::ShrinkToFit => (2, 40),
-        _ => (2, 2),
-    };
-    for key in 0..most {
-        set.insert(key, me).ok()?;
+    let mut is_done = true;
+    for key in 0..keys {
+        is_done &= set.insert(key, me).is_ok();
     }
-    for key in keys..most {
+    is_done
+}
+
+/// Takes these keys out.
+fn take<Q: RawRwLock>(set: &Set<'_, Q>, from: u64, to: u64, me: &mut Q::Party)
+where
+    Q::Runtime: Wait,
+{
+    for key in from..to {
         let _key = set.remove(&key, me);
     }
-    Some(keys)
+}
+
+/// Puts keys in, and takes those out again that aren't to be there before the call.
+fn prepare<Q: RawRwLock>(set: &Set<'_, Q>, me: &mut Q::Party, call: OnSet) -> bool
+where
+    Q::Runtime: Wait,
+{
+    let keys = before(call);
+    let most = if let OnSet::ShrinkToFit = call { 40 } else { keys };
+    let is_put = put(set, most, me);
+    take(set, keys, most, me);
+    is_put
 }
 
 /// Compares what stands where no shard is held, since who asks for one that is waits.
@@ -189,13 +212,42 @@ where
 }
 
 /// Collects the keys of a set that goes. It may do with less memory than it asks for first.
-fn collect_owned<Q: RawRwLock + Drop, R: Threads + Sync>(
+fn collect_owned<Q: RawRwLock + Drop, T: Rows, R: Threads + Sync>(
     heap: &Heap,
     rt: &R,
+    table: T,
     set: Set<'_, Q>,
-) -> Said {
+) -> Option<Seen> {
+    let before = heap.asked();
     let list = set.into_par_iter().map_collect(rt, heap, |key: u64| key);
-    listed(list, 2, NoMemory)
+    let said = listed(list, 2, NoMemory);
+    Seen::of(before, heap.asked(), said.may_fit(heap) && table.are_free())
+}
+
+/// Makes a call. Answers how many growths were asked for before, too.
+fn make<'h, Q: RawRwLock + MakeLock<T> + Drop + Sync, T: Copy + Drop, R: Threads + Sync>(
+    heap: &'h Heap,
+    rt: &R,
+    table: T,
+    set: &mut Set<'h, Q>,
+    team: &mut Team<Q::Party>,
+    call: OnSet,
+) -> Option<(u64, Came)>
+where
+    Q::Runtime: Wait,
+    Q::Party: Send,
+{
+    let before = heap.asked();
+    match call {
+        OnSet::Extend | OnSet::ParExtend | OnSet::ParExtendShared => {
+            extend(heap, rt, set, &mut team.others, call)
+        }
+        OnSet::MapCollect => {
+            let said = collect(heap, rt, set, &mut team.others);
+            Some((before, Came::Other(said)))
+        }
+        _ => Some((before, make_call(table, set, &mut team.me, call))),
+    }
 }
 
 /// Makes a call on a set that is lent.
@@ -211,21 +263,12 @@ where
     Q::Runtime: Wait,
     Q::Party: Send,
 {
-    let keys = prepare(set, &mut team.me, call)?;
-    let before = heap.asked();
-    let (before, came) = match call {
-        OnSet::Extend | OnSet::ParExtend | OnSet::ParExtendShared => {
-            extend(heap, rt, set, &mut team.others, call)?
-        }
-        OnSet::MapCollect => (
-            before,
-            Came::Other(collect(heap, rt, set, &mut team.others)),
-        ),
-        _ => (before, make_call(table, set, &mut team.me, call)),
-    };
+    let is_put = prepare(set, &mut team.me, call);
+    let (before_it, came) = make(heap, rt, table, set, team, call)?;
     let behind = heap.asked();
-    let is_right = table.are_free() && stands(heap, set, keys, came, &mut team.me);
-    Seen::of(before, behind, is_right)
+    let is_right = is_put && table.are_free();
+    let is_right = is_right && stands(heap, set, before(call), came, &mut team.me);
+    Seen::of(before_it, behind, is_right)
 }
 
 /// Collects the keys of a set that goes.
@@ -239,10 +282,8 @@ fn own_set<Q: RawRwLock + Drop, T: Rows, R: Threads + Sync>(
 where
     Q::Runtime: Wait,
 {
-    let _keys = prepare(&set, me, OnSet::OwnedMapCollect)?;
-    let before = heap.asked();
-    let said = collect_owned(heap, rt, set);
-    Seen::of(before, heap.asked(), said.may_fit(heap) && table.are_free())
+    let is_put = prepare(&set, me, OnSet::OwnedMapCollect);
+    collect_owned(heap, rt, table, set)?.and(is_put)
 }
 
 /// Makes a call on a new set, or collects the keys of one that goes.
@@ -258,10 +299,10 @@ where
     Q::Party: Send,
 {
     let mut set: Set<'_, Q> = DashSet::with_hasher(heap, SpreadState, 1, table).ok()?;
-    if let OnSet::OwnedMapCollect = call {
-        return own_set(heap, rt, table, set, &mut team.me);
+    match call {
+        OnSet::OwnedMapCollect => own_set(heap, rt, table, set, &mut team.me),
+        _ => ask_set(heap, rt, table, &mut set, team, call),
     }
-    ask_set(heap, rt, table, &mut set, team, call)
 }
 
 const KEY: &str = "the key comes back; no key; no hold";

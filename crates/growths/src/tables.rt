@@ -61,20 +61,19 @@ fn make_call(shard: &mut Small<'_>, call: Call) -> Said {
     }
 }
 
-/// Makes a call on a shard, behind the insertions that it needs.
-fn ask(heap: &Heap, call: Call) -> Option<Seen> {
-    let mut shard = Shard::new(heap);
+/// Makes a call on an empty shard, behind the insertions that it needs.
+fn ask_shard(heap: &Heap, shard: &mut Small<'_>, call: Call) -> Option<Seen> {
     let (keys, gone) = match call {
         Call::Insert => (28, 0),
         Call::Reserve => (2, 0),
         _ => (2, 38),
     };
-    fill(&mut shard, keys, gone)?;
+    fill(shard, keys, gone)?;
     let room = shard.capacity();
     let before = heap.asked();
-    let said = make_call(&mut shard, call);
+    let said = make_call(shard, call);
     let is_put = matches!(call, Call::Insert) && said == Said::Done;
-    let has_all = keys_of(&shard) == keys.saturating_add(u64::from(is_put));
+    let has_all = keys_of(shard) == keys.saturating_add(u64::from(is_put));
     let has_room = said == Said::Done || shard.capacity() == room;
     said.seen(heap, before, has_all && has_room)
 }
@@ -108,16 +107,19 @@ fn extend(shards: &mut Plain<'_>, pairs: Vec<(u64, u64)>) -> Said {
     Said::of(is_right && said.is_ok(), is_right && said.is_err())
 }
 
-fn ask_plain(heap: &Heap, call: Call) -> Option<Seen> {
-    let mut shards: Plain<'_> = Shards::new(heap, SHARDS, SpreadState).ok()?;
-    let before = heap.asked();
-    let said = match call {
-        Call::InsertPlain => insert_first(&mut shards),
-        Call::ExtendPlain => extend(&mut shards, pairs(*heap.inner())?),
+fn make_plain(shards: &mut Plain<'_>, call: Call, pairs: Vec<(u64, u64)>) -> Said {
+    match call {
+        Call::InsertPlain => insert_first(shards),
+        Call::ExtendPlain => extend(shards, pairs),
         _ if 1 < shards.count() => made(shards.reserve(1), NoMemory),
         _ => Said::Other,
-    };
-    said.seen(heap, before, true)
+    }
+}
+
+fn ask_plain(heap: &Heap, shards: &mut Plain<'_>, call: Call) -> Option<Seen> {
+    let pairs = pairs(*heap.inner())?;
+    let before = heap.asked();
+    make_plain(shards, call, pairs).seen(heap, before, true)
 }
 
 fn clone_value(heap: &Heap) -> Option<Seen> {
@@ -130,16 +132,23 @@ fn clone_value(heap: &Heap) -> Option<Seen> {
     said.seen(heap, before, **value.get() == 5)
 }
 
+fn make_shards(heap: &Heap) -> Result<Plain<'_>, MapFault> {
+    Shards::new(heap, SHARDS, SpreadState)
+}
+
 impl<R: Drop> Case<R> for Call {
     fn run(self, _rt: R, heap: &Heap) -> Option<Seen> {
-        let before = heap.asked();
         match self {
-            Call::Insert | Call::Reserve | Call::Shrink => ask(heap, self),
-            Call::InsertPlain | Call::ReservePlain | Call::ExtendPlain => ask_plain(heap, self),
+            Call::Insert | Call::Reserve | Call::Shrink => {
+                ask_shard(heap, &mut Shard::new(heap), self)
+            }
+            Call::InsertPlain | Call::ReservePlain | Call::ExtendPlain => {
+                ask_plain(heap, &mut make_shards(heap).ok()?, self)
+            }
             Call::CloneValue => clone_value(heap),
             Call::New => {
-                let shards: Result<Plain<'_>, MapFault> = Shards::new(heap, SHARDS, SpreadState);
-                made(shards, MapFault::NoMemory).seen(heap, before, true)
+                let before = heap.asked();
+                made(make_shards(heap), MapFault::NoMemory).seen(heap, before, true)
             }
         }
     }
