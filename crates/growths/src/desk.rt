@@ -53,8 +53,7 @@ fn held(desk: &Small<'_>) -> u64 {
 
 /// Whether nothing is held, and a writer is let in and out.
 fn is_free(desk: &mut Small<'_>) -> bool {
-    let is_let_in = held(desk) == 0 && desk.write(7, 70) == Ok(());
-    is_let_in && desk.unlock(7, 70) == Ok(())
+    held(desk) == 0 && desk.write(7, 70).is_ok() && desk.unlock(7, 70).is_ok()
 }
 
 /// What came of a list: as many reads as it tells were made and hold, and no others.
@@ -94,8 +93,10 @@ fn ask<'h>(heap: &'h Heap, desk: &mut Small<'h>, call: Call, before: u64) -> Opt
     }
     let said = made(desk, call);
     let behind = heap.asked();
-    let is_short = said == Err(DeskFault::NoMemory) && is_free(desk);
-    let said = Said::of(said == Ok(()), is_short);
+    let said = match said {
+        Ok(()) => Said::Done,
+        Err(fault) => Said::of(false, fault == DeskFault::NoMemory && is_free(desk)),
+    };
     Seen::of(before, behind, said.fits(heap) && *desk.value() == 5)
 }
 

@@ -73,11 +73,16 @@ fn make_world(heap: &Heap, kinds: Kinds) -> Option<Seen> {
     made(world, SizeFault::NoMemory).seen(heap, before, true)
 }
 
+fn with_world(heap: &Heap, call: Call) -> Option<Seen> {
+    let (_, world) = world_of(heap, EACH)?;
+    look(heap, &mut world.ok()?, call)
+}
+
 impl<R: Drop> Case<R> for Call {
     fn run(self, _rt: R, heap: &Heap) -> Option<Seen> {
         match self {
             Call::New(kinds) => make_world(heap, kinds),
-            _ => look(heap, &mut world_of(heap, EACH)?.1.ok()?, self),
+            _ => with_world(heap, self),
         }
     }
 }

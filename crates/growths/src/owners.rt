@@ -50,8 +50,10 @@ enum Came {
 const MORE: usize = 100;
 
 fn inserted(value: Answer, said: Result<Option<u64>, (u64, u64)>) -> Said {
-    let is_done = said == Ok(None) && value == Answer::Number(7);
-    Said::of(is_done, said == Err((5, 7)) && value == Answer::Absent)
+    match said {
+        Ok(old) => Said::of(old.is_none() && value == Answer::Number(7), false),
+        Err(back) => Said::of(false, back == (5, 7) && value == Answer::Absent),
+    }
 }
 
 /// What came of an extension, so many pairs of which are there: the pairs before the one that came back have to be
@@ -67,8 +69,10 @@ where
 {
     let end = FROM.saturating_add(put);
     let is_right = count(map, FROM, end, me) == put;
-    let is_back = said == Err((end, end)) && end < TO;
-    Said::of(is_right && said == Ok(()) && end == TO, is_right && is_back)
+    match said {
+        Ok(()) => Said::of(is_right && end == TO, false),
+        Err(back) => Said::of(false, is_right && back == (end, end) && end < TO),
+    }
 }
 
 /// Compares what came of a call with what the map has: the keys that were there, and of an extension so many more. Of
@@ -82,9 +86,9 @@ where
     match came {
         Came::Inserted(said) => inserted(make(map, Call::Key(Keyed::View(5)), me), said),
         Came::Extended(said) if is_whole => extended(map, put, said, me),
-        Came::Shared(said) if is_whole => {
-            let is_short = said == Err(ParExtendFault::NoMemory) && put < 20;
-            Said::of(said == Ok(()) && put == 20, is_short)
+        Came::Shared(Ok(())) if is_whole => Said::of(put == 20, false),
+        Came::Shared(Err(fault)) if is_whole => {
+            Said::of(false, fault == ParExtendFault::NoMemory && put < 20)
         }
         Came::Other(said) if is_whole => said,
         _ => Said::Other,

@@ -62,10 +62,8 @@ where
 {
     let put = count(set, FROM, TO, me);
     match came {
-        Came::Inserted(said) => match set.contains(&5, me) {
-            true => Said::of(said == Ok(true), false),
-            false => Said::of(false, said == Err(5)),
-        },
+        Came::Inserted(Ok(is_new)) => Said::of(is_new && set.contains(&5, me), false),
+        Came::Inserted(Err(back)) => Said::of(false, back == 5 && !set.contains(&5, me)),
         Came::Extended(Ok(())) | Came::Shared(Ok(())) => Said::of(put == 20, false),
         Came::Extended(Err(back)) => {
             let before = back.saturating_sub(FROM);

@@ -53,8 +53,10 @@ fn keys_of(shard: &Small<'_>) -> u64 {
 fn make_call(shard: &mut Small<'_>, call: Call) -> Said {
     match call {
         Call::Insert => {
-            let said = shard.insert(28, 28, 28);
-            Said::of(matches!(said, Ok((_, None))), said == Err((28, 28)))
+            match shard.insert(28, 28, 28) {
+                Ok((_, old)) => Said::of(old.is_none(), false),
+                Err(back) => Said::of(false, back == (28, 28)),
+            }
         }
         Call::Reserve => made(shard.reserve(100), NoMemory),
         _ => made(shard.shrink(), NoMemory),
@@ -88,23 +90,17 @@ fn has_up_to(shards: &Plain<'_>, end: u64) -> bool {
 }
 
 fn insert_first(shards: &mut Plain<'_>) -> Said {
-    let said = shards.insert(FROM, FROM);
-    let end = if said == Ok(None) { FROM + 1 } else { FROM };
-    let is_right = has_up_to(shards, end);
-    Said::of(
-        is_right && said == Ok(None),
-        is_right && said == Err((FROM, FROM)),
-    )
+    match shards.insert(FROM, FROM) {
+        Ok(old) => Said::of(old.is_none() && has_up_to(shards, FROM + 1), false),
+        Err(back) => Said::of(false, back == (FROM, FROM) && has_up_to(shards, FROM)),
+    }
 }
 
 fn extend(shards: &mut Plain<'_>, pairs: Vec<(u64, u64)>) -> Said {
-    let said = shards.extend(pairs.into_iter());
-    let end = match said {
-        Ok(()) => TO,
-        Err((key, _)) => key,
-    };
-    let is_right = has_up_to(shards, end);
-    Said::of(is_right && said.is_ok(), is_right && said.is_err())
+    match shards.extend(pairs.into_iter()) {
+        Ok(()) => Said::of(has_up_to(shards, TO), false),
+        Err((key, _)) => Said::of(false, has_up_to(shards, key)),
+    }
 }
 
 fn make_plain(shards: &mut Plain<'_>, call: Call, pairs: Vec<(u64, u64)>) -> Said {
