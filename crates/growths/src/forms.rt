@@ -28,9 +28,14 @@ fn two<'h, Q: RawRwLock + MakeLock<T> + Drop, T: Rows + Drop>(
 where
     Q::Runtime: Wait,
 {
-    let map = map_of(heap, table).ok()?;
-    put(&map, 2, me);
-    Some(map)
+    let map: Result<Map<'h, Q>, MapFault> = map_of(heap, table);
+    match map {
+        Ok(map) => {
+            put(&map, 2, me);
+            Some(map)
+        }
+        Err(_) => None,
+    }
 }
 
 /// Collects the keys of a map that goes. It may do with less memory than it asks for first.

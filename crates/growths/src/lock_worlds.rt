@@ -74,8 +74,10 @@ fn make_world(heap: &Heap, kinds: Kinds) -> Option<Seen> {
 }
 
 fn with_world(heap: &Heap, call: Call) -> Option<Seen> {
-    let (_, world) = world_of(heap, EACH)?;
-    look(heap, &mut world.ok()?, call)
+    match world_of(heap, EACH) {
+        Some((_, Ok(mut world))) => look(heap, &mut world, call),
+        _ => None,
+    }
 }
 
 impl<R: Drop> Case<R> for Call {

@@ -106,8 +106,10 @@ fn ask(heap: &Heap, lot: &mut Lot<&Heap>, call: Call) -> Option<Seen> {
 
 /// Makes the call on a new lot.
 fn on_lot(heap: &Heap, call: Call) -> Option<Seen> {
-    let mut lot = Lot::new(heap, MOST, 7).ok()?;
-    ask(heap, &mut lot, call)
+    match Lot::new(heap, MOST, 7) {
+        Ok(mut lot) => ask(heap, &mut lot, call),
+        Err(_) => None,
+    }
 }
 
 impl<R: Drop> Case<R> for Call {
@@ -179,12 +181,18 @@ fn list(heap: &Heap, me: &mut ThreadData<&Heap>) -> Option<Seen> {
     Seen::of(before, behind, said.may_fit(heap) && is_kept)
 }
 
+fn by(heap: &Heap, me: &mut ThreadData<&Heap>, call: SharedCall) -> Option<Seen> {
+    match call {
+        SharedCall::AcquireResource => note(heap, me),
+        _ => list(heap, me),
+    }
+}
+
 /// Makes a call by a new thread.
 fn ask_thread<R: Wait>(heap: &Heap, lot: &Shared<'_, R>, call: SharedCall) -> Option<Seen> {
-    let mut me = lot.thread_data().ok()?;
-    match call {
-        SharedCall::AcquireResource => note(heap, &mut me),
-        _ => list(heap, &mut me),
+    match lot.thread_data() {
+        Ok(mut me) => by(heap, &mut me, call),
+        Err(_) => None,
     }
 }
 
@@ -221,8 +229,10 @@ impl<R: Wait + Copy + Drop> Case<R> for SharedCall {
         if let SharedCall::New = self {
             return make_shared(rt, heap);
         }
-        let lot = ParkingLot::new(rt, heap, MOST, 7).ok()?;
-        ask_shared(heap, &lot, self)
+        match ParkingLot::new(rt, heap, MOST, 7) {
+            Ok(lot) => ask_shared(heap, &lot, self),
+            Err(_) => None,
+        }
     }
 }
 

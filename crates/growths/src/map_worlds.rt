@@ -172,8 +172,10 @@ fn play(heap: &Heap, world: &mut World<'_>, played: Played) -> Option<Seen> {
 
 impl<R: Drop> Case<R> for Played {
     fn run(self, _rt: R, heap: &Heap) -> Option<Seen> {
-        let (_, world) = world_of(heap, self.0, self.1)?;
-        play(heap, &mut world.ok()?, self)
+        match world_of(heap, self.0, self.1) {
+            Some((_, Ok(mut world))) => play(heap, &mut world, self),
+            _ => None,
+        }
     }
 }
 
@@ -207,14 +209,24 @@ fn look(heap: &Heap, world: &mut World<'_>, call: Whole) -> Option<Seen> {
     Seen::of(before, behind, said.may_fit(heap) && is_kept)
 }
 
+fn make_world(heap: &Heap) -> Option<Seen> {
+    let (before, world) = world_of(heap, &[1, 2], HELD)?;
+    made(world, WorldNewFault::NoMemory).seen(heap, before, true)
+}
+
+fn with_world(heap: &Heap, call: Whole) -> Option<Seen> {
+    match world_of(heap, &[1], HELD) {
+        Some((_, Ok(mut world))) => look(heap, &mut world, call),
+        _ => None,
+    }
+}
+
 impl<R: Drop> Case<R> for Whole {
     fn run(self, _rt: R, heap: &Heap) -> Option<Seen> {
-        let keys: &[u64] = if let Whole::New = self { &[1, 2] } else { &[1] };
-        let (before, world) = world_of(heap, keys, HELD)?;
-        if let Whole::New = self {
-            return made(world, WorldNewFault::NoMemory).seen(heap, before, true);
+        match self {
+            Whole::New => make_world(heap),
+            _ => with_world(heap, self),
         }
-        look(heap, &mut world.ok()?, self)
     }
 }
 

@@ -2,6 +2,7 @@
 
 use crate::rows::{EACH, Map, On, PAIR, Rows, map_of};
 use dashmap_calls::{Answer, Call, Keyed, Many, Operator, Place, Try, Walk, make};
+use dashmap_table::MapFault;
 use lock_api_raw::{MakeLock, RawRwLock};
 use refusing_heap::{Heap, Line, Seen, refused_growth};
 use std::sync::Wait;
@@ -76,8 +77,11 @@ pub fn ask_map<Q: RawRwLock + MakeLock<T> + Drop, T: Rows + Drop>(
 where
     Q::Runtime: Wait,
 {
-    let map: Map<'_, Q> = map_of(heap, table).ok()?;
-    look(heap, table, &map, me, call)
+    let map: Result<Map<'_, Q>, MapFault> = map_of(heap, table);
+    match map {
+        Ok(map) => look(heap, table, &map, me, call),
+        Err(_) => None,
+    }
 }
 
 const NEW: &[Call] = &[];

@@ -254,8 +254,11 @@ where
     Q::Runtime: Wait,
     Q::Party: Send,
 {
-    let mut map: Map<'_, Q> = map_of(heap, table).ok()?;
-    ask_on(heap, rt, table, &mut map, team, call)
+    let map: Result<Map<'_, Q>, MapFault> = map_of(heap, table);
+    match map {
+        Ok(mut map) => ask_on(heap, rt, table, &mut map, team, call),
+        Err(_) => None,
+    }
 }
 
 type Entries<'h, Q> = DashMap<Costly<'h>, u64, SpreadState, Q, &'h Heap>;
@@ -297,11 +300,11 @@ fn ask_entries<'h, Q: RawRwLock, T: Rows + Drop>(
 where
     Q::Runtime: Wait,
 {
-    map.insert(Costly::new(heap, 1), 0, me).ok()?;
+    let is_put = map.insert(Costly::new(heap, 1), 0, me).is_ok();
     let before = heap.asked();
     let said = enter(map, Costly::new(heap, 3), me);
     let length = if said == Said::Done { 2 } else { 1 };
-    said.seen(heap, before, table.are_free() && map.len(me) == length)
+    said.seen(heap, before, is_put && table.are_free() && map.len(me) == length)
 }
 
 pub fn insert_entry<Q: RawRwLock + MakeLock<T> + Drop, T: Rows + Drop>(
@@ -312,13 +315,16 @@ pub fn insert_entry<Q: RawRwLock + MakeLock<T> + Drop, T: Rows + Drop>(
 where
     Q::Runtime: Wait,
 {
-    let map: Entries<'_, Q> = DashMap::with_hasher_and_shard_amount(
+    let map: Result<Entries<'_, Q>, MapFault> = DashMap::with_hasher_and_shard_amount(
         heap,
         SpreadState,
         SHARDS,
         table,
-    ).ok()?;
-    ask_entries(heap, table, &map, me)
+    );
+    match map {
+        Ok(map) => ask_entries(heap, table, &map, me),
+        Err(_) => None,
+    }
 }
 
 const ROOM: &str = "each pair; room of earlier shards";

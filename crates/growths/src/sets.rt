@@ -284,7 +284,26 @@ where
     collect_owned(heap, rt, table, set)?.and(is_put)
 }
 
-/// Makes a call on a new set, or collects the keys of one that goes.
+/// Makes a call on a set, or collects its keys as it goes.
+fn ask_or_own<'h, Q: RawRwLock + MakeLock<T> + Drop + Sync, T: Rows + Drop, R: Threads + Sync>(
+    heap: &'h Heap,
+    rt: &R,
+    table: T,
+    mut set: Set<'h, Q>,
+    team: &mut Team<Q::Party>,
+    call: OnSet,
+) -> Option<Seen>
+where
+    Q::Runtime: Wait,
+    Q::Party: Send,
+{
+    match call {
+        OnSet::OwnedMapCollect => own_set(heap, rt, table, set, &mut team.me),
+        _ => ask_set(heap, rt, table, &mut set, team, call),
+    }
+}
+
+/// Makes a call on a new set.
 pub fn with_set<Q: RawRwLock + MakeLock<T> + Drop + Sync, T: Rows + Drop, R: Threads + Sync>(
     heap: &Heap,
     rt: &R,
@@ -296,10 +315,10 @@ where
     Q::Runtime: Wait,
     Q::Party: Send,
 {
-    let mut set: Set<'_, Q> = DashSet::with_hasher(heap, SpreadState, 1, table).ok()?;
-    match call {
-        OnSet::OwnedMapCollect => own_set(heap, rt, table, set, &mut team.me),
-        _ => ask_set(heap, rt, table, &mut set, team, call),
+    let set: Result<Set<'_, Q>, MapFault> = DashSet::with_hasher(heap, SpreadState, 1, table);
+    match set {
+        Ok(set) => ask_or_own(heap, rt, table, set, team, call),
+        Err(_) => None,
     }
 }
 

@@ -128,24 +128,34 @@ fn clone_value(heap: &Heap) -> Option<Seen> {
     said.seen(heap, before, **value.get() == 5)
 }
 
+fn on_shard(heap: &Heap, call: Call) -> Option<Seen> {
+    let mut shard = Shard::new(heap);
+    ask_shard(heap, &mut shard, call)
+}
+
 fn make_shards(heap: &Heap) -> Result<Plain<'_>, MapFault> {
     Shards::new(heap, SHARDS, SpreadState)
+}
+
+fn on_plain(heap: &Heap, call: Call) -> Option<Seen> {
+    match make_shards(heap) {
+        Ok(mut shards) => ask_plain(heap, &mut shards, call),
+        Err(_) => None,
+    }
+}
+
+fn new_plain(heap: &Heap) -> Option<Seen> {
+    let before = heap.asked();
+    made(make_shards(heap), MapFault::NoMemory).seen(heap, before, true)
 }
 
 impl<R: Drop> Case<R> for Call {
     fn run(self, _rt: R, heap: &Heap) -> Option<Seen> {
         match self {
-            Call::Insert | Call::Reserve | Call::Shrink => {
-                ask_shard(heap, &mut Shard::new(heap), self)
-            }
-            Call::InsertPlain | Call::ReservePlain | Call::ExtendPlain => {
-                ask_plain(heap, &mut make_shards(heap).ok()?, self)
-            }
+            Call::Insert | Call::Reserve | Call::Shrink => on_shard(heap, self),
+            Call::InsertPlain | Call::ReservePlain | Call::ExtendPlain => on_plain(heap, self),
             Call::CloneValue => clone_value(heap),
-            Call::New => {
-                let before = heap.asked();
-                made(make_shards(heap), MapFault::NoMemory).seen(heap, before, true)
-            }
+            Call::New => new_plain(heap),
         }
     }
 }
