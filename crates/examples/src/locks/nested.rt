@@ -1,6 +1,6 @@
 //! Nested holds: the owner of a `ReentrantMutex` may take it again, up to the limit that it was made with.
 
-use parking_lot::{LockTable, ParkingLot, ReentrantMutex, ThreadData};
+use parking_lot::{LockTable, LotFault, ParkingLot, ReentrantMutex, ThreadData};
 use std::alloc::Global;
 use std::sync::Wait;
 use std::sync::atomic::{AtomicU64, Ordering};
@@ -11,23 +11,30 @@ type Canvas<'t, 'l, R> = ReentrantMutex<'t, 'l, AtomicU64, R>;
 
 /// Draws a line, under a hold of its own. False where there are too many holds.
 fn line<R: Wait>(canvas: &Canvas<'_, '_, R>, me: &mut ThreadData) -> bool {
-    let Ok(lines) = canvas.lock(me) else {
-        return false
-    };
-    lines.fetch_add(1, Ordering::SeqCst);
-    true
+    match canvas.lock(me) {
+        Ok(lines) => {
+            lines.fetch_add(1, Ordering::SeqCst);
+            true
+        }
+        Err(_) => false,
+    }
 }
 
-/// Draws a square of four lines, whose holds lie in one. True if nobody else drew meanwhile.
-fn square<R: Wait>(canvas: &Canvas<'_, '_, R>, me: &mut ThreadData) -> bool {
-    let Ok(lines) = canvas.lock(me) else {
-        return false
-    };
+/// Draws four lines. True if so many were drawn meanwhile.
+fn four<R: Wait>(canvas: &Canvas<'_, '_, R>, lines: &AtomicU64, me: &mut ThreadData) -> bool {
     let before = lines.load(Ordering::SeqCst);
     for _ in 0..4 {
         let _ = line(canvas, me);
     }
     lines.load(Ordering::SeqCst) == before.wrapping_add(4)
+}
+
+/// Draws a square of four lines, whose holds lie in one. True if nobody else drew meanwhile.
+fn square<R: Wait>(canvas: &Canvas<'_, '_, R>, me: &mut ThreadData) -> bool {
+    match canvas.lock(me) {
+        Ok(lines) => four(canvas, &*lines, me),
+        Err(_) => false,
+    }
 }
 
 /// Draws thirty squares, and answers how many were drawn alone.
@@ -39,24 +46,31 @@ fn draw<R: Wait>(canvas: &Canvas<'_, '_, R>, mut me: ThreadData) -> u64 {
     alone
 }
 
+/// Whether a hold is refused beside another one and those that there are.
+fn next_refused<R: Wait>(canvas: &Canvas<'_, '_, R>, me: &mut ThreadData) -> bool {
+    match canvas.lock(me) {
+        Ok(_second) => !line(canvas, me),
+        Err(_) => false,
+    }
+}
+
 /// Whether a third hold is refused beside two.
 fn third_refused<R: Wait>(canvas: &Canvas<'_, '_, R>, me: &mut ThreadData) -> bool {
-    let Ok(_first) = canvas.lock(me) else {
-        return false
-    };
-    let Ok(_second) = canvas.lock(me) else {
-        return false
-    };
-    !line(canvas, me)
+    match canvas.lock(me) {
+        Ok(_first) => next_refused(canvas, me),
+        Err(_) => false,
+    }
 }
 
 /// Two threads draw beside each other, and answer how many squares were drawn alone.
-fn both<R>(rt: &R, canvas: &Canvas<'_, '_, R>, one: ThreadData, two: ThreadData) -> u64
+fn both<R>(lot: &ParkingLot<R>, canvas: &Canvas<'_, '_, R>) -> Result<u64, LotFault>
 where
     R: Wait + Threads + Sync,
 {
-    let (here, there) = thread::join(rt, || draw(canvas, one), || draw(canvas, two));
-    here.wrapping_add(there)
+    let one = lot.thread_data()?;
+    let two = lot.thread_data()?;
+    let (here, there) = thread::join(lot.runtime(), || draw(canvas, one), || draw(canvas, two));
+    Ok(here.wrapping_add(there))
 }
 
 /// How many squares two threads drew alone, whether a third hold is refused, and how many lines there are.
@@ -67,8 +81,7 @@ pub fn run<R: Wait + Threads + Sync + Copy + Drop>(
     let lot = ParkingLot::new(rt, alloc, 3, 9)?;
     let table = LockTable::new(alloc, &lot, 2)?;
     let canvas: Canvas<'_, '_, R> = ReentrantMutex::new(&table, 2, AtomicU64::new(0))?; // at most two holds at a time
-    let (one, two, mut me) = (lot.thread_data()?, lot.thread_data()?, lot.thread_data()?);
-    let alone = both(&rt, &canvas, one, two);
-    let refused = third_refused(&canvas, &mut me);
+    let alone = both(&lot, &canvas)?;
+    let refused = third_refused(&canvas, &mut lot.thread_data()?);
     Ok((alone, refused, canvas.into_inner().into_inner()))
 }

@@ -48,10 +48,10 @@ fn sell<R: Wait>(seat: &Seat<'_, '_, R>, times: u64, me: &mut ThreadData) -> u64
 
 /// Whether a try is refused while a customer thinks it over, who buys nothing.
 fn refused_beside<R: Wait>(seat: &Seat<'_, '_, R>, me: &mut ThreadData) -> bool {
-    let Some(_sale) = begin(seat, 1, me) else {
-        return false
-    };
-    seat.try_lock().is_none()
+    match begin(seat, 1, me) {
+        Some(_sale) => seat.try_lock().is_none(),
+        None => false,
+    }
 }
 
 /// Whether a seat can't be had beside a sale, how often it was sold in two, and whether it is locked at last.

@@ -2,7 +2,7 @@
 //!
 //! What can be had at once is had whatever the time; a deadline is looked at where the call sleeps.
 
-use parking_lot::{LockTable, Mutex, ParkingLot, ThreadData};
+use parking_lot::{LockTable, LotFault, Mutex, ParkingLot, ThreadData};
 use std::alloc::Global;
 use std::sync::Wait;
 use std::thread::{self, Threads};
@@ -18,11 +18,13 @@ fn print_within<R: Wait + Clock>(
     time: Duration,
     me: &mut ThreadData,
 ) -> bool {
-    let Some(mut pages) = printer.try_lock_for(time, rt, me) else {
-        return false
-    };
-    *pages = pages.wrapping_add(1);
-    true
+    match printer.try_lock_for(time, rt, me) {
+        Some(mut pages) => {
+            *pages = pages.wrapping_add(1);
+            true
+        }
+        None => false,
+    }
 }
 
 /// Prints fifty pages, each as soon as the printer is free within a minute.
@@ -43,15 +45,19 @@ fn print_beside<R: Wait + Clock>(
 }
 
 /// Two threads print beside each other.
-fn both<R>(rt: &R, printer: &Printer<'_, '_, R>, one: ThreadData, two: ThreadData)
+fn both<R>(lot: &ParkingLot<R>, printer: &Printer<'_, '_, R>) -> Result<(), LotFault>
 where
     R: Wait + Clock + Threads + Sync,
 {
+    let rt = lot.runtime();
+    let one = lot.thread_data()?;
+    let two = lot.thread_data()?;
     let (_, _) = thread::join(
         rt,
         || print_all(rt, printer, one),
         || print_all(rt, printer, two),
     );
+    Ok(())
 }
 
 /// How many pages two threads printed, and whether one more was printed while the printer was in use, and once it was
@@ -63,8 +69,8 @@ where
     let lot = ParkingLot::new(rt, alloc, 3, 7)?;
     let table = LockTable::new(alloc, &lot, 1)?;
     let printer: Printer<'_, '_, R> = Mutex::new(&table, 0)?;
-    let (one, two, mut me) = (lot.thread_data()?, lot.thread_data()?, lot.thread_data()?);
-    both(&rt, &printer, one, two);
+    both(&lot, &printer)?;
+    let mut me = lot.thread_data()?;
     let used = print_beside(&rt, &printer, &mut me);
     let free = print_within(&rt, &printer, Duration::from_millis(5), &mut me);
     Ok((printer.into_inner(), used, free))

@@ -3,7 +3,7 @@
 //! `unlock_fair` gives the mutex to whoever waits longest, a `FairMutex` does so at each release, and `bump` lets a
 //! waiter in and takes the mutex again.
 
-use parking_lot::{FairMutex, Guard, LockTable, Mutex, ParkingLot, ThreadData};
+use parking_lot::{FairMutex, Guard, LockTable, LotFault, Mutex, ParkingLot, ThreadData};
 use std::alloc::Global;
 use std::sync::Wait;
 use std::thread::{self, Threads};
@@ -34,32 +34,29 @@ fn let_in<R: Wait>(turns: &Mutex<'_, '_, u64, R>, mut me: ThreadData) {
     }
 }
 
-/// A pair of threads that register with a lot.
-fn two<R: Wait>(lot: &ParkingLot<R>) -> Result<(ThreadData, ThreadData), anyhow::Error> {
-    Ok((lot.thread_data()?, lot.thread_data()?))
-}
-
 /// Two threads take turns at a mutex, in each way.
-fn both<R>(rt: &R, lot: &ParkingLot<R>, turns: &Mutex<'_, '_, u64, R>) -> Result<(), anyhow::Error>
+fn both<R>(lot: &ParkingLot<R>, turns: &Mutex<'_, '_, u64, R>) -> Result<(), LotFault>
 where
     R: Wait + Threads + Sync,
 {
-    let (one, other) = two(lot)?;
-    let (_, _) = thread::join(rt, || hand_over(turns, one), || let_in(turns, other));
+    let one = lot.thread_data()?;
+    let other = lot.thread_data()?;
+    let (_, _) = thread::join(lot.runtime(), || hand_over(turns, one), || let_in(turns, other));
     Ok(())
 }
 
 /// Two threads take turns at a fair mutex.
-fn both_fairly<R>(
-    rt: &R,
-    lot: &ParkingLot<R>,
-    turns: &FairMutex<'_, '_, u64, R>,
-) -> Result<(), anyhow::Error>
+fn both_fairly<R>(lot: &ParkingLot<R>, turns: &FairMutex<'_, '_, u64, R>) -> Result<(), LotFault>
 where
     R: Wait + Threads + Sync,
 {
-    let (one, other) = two(lot)?;
-    let (_, _) = thread::join(rt, || take_fairly(turns, one), || take_fairly(turns, other));
+    let one = lot.thread_data()?;
+    let other = lot.thread_data()?;
+    let (_, _) = thread::join(
+        lot.runtime(),
+        || take_fairly(turns, one),
+        || take_fairly(turns, other),
+    );
     Ok(())
 }
 
@@ -71,7 +68,7 @@ pub fn run<R: Wait + Threads + Sync + Copy + Drop>(
     let lot = ParkingLot::new(rt, alloc, 4, 8)?;
     let table = LockTable::new(alloc, &lot, 2)?;
     let (asked, always) = (Mutex::new(&table, 0u64)?, FairMutex::new(&table, 0u64)?);
-    both(&rt, &lot, &asked)?;
-    both_fairly(&rt, &lot, &always)?;
+    both(&lot, &asked)?;
+    both_fairly(&lot, &always)?;
     Ok((asked.into_inner(), always.into_inner()))
 }

@@ -39,8 +39,10 @@ impl<R: Wait + Threads + Sync> Cache<'_, '_, R> {
     }
 
     /// The sums that two threads see beside each other.
-    fn both(&self, rt: &R, one: ThreadData, two: ThreadData) -> (u64, u64) {
-        thread::join(rt, || self.sum(0..60, one), || self.sum(40..100, two))
+    fn both(&self, lot: &ParkingLot<R>) -> Result<(u64, u64), LotFault> {
+        let one = lot.thread_data()?;
+        let two = lot.thread_data()?;
+        Ok(thread::join(lot.runtime(), || self.sum(0..60, one), || self.sum(40..100, two)))
     }
 
     /// Uses five squares again, and lets all others go. Answers how many are left.
@@ -65,8 +67,8 @@ where
         squares: DashMap::with_shard_amount(alloc, 8, &table)?,
         time: AtomicU64::new(0),
     };
-    let (one, two, mut me) = (lot.thread_data()?, lot.thread_data()?, lot.thread_data()?);
-    let (low, high) = cache.both(&rt, one, two);
+    let (low, high) = cache.both(&lot)?;
+    let mut me = lot.thread_data()?;
     let kept = cache.squares.len(&mut me);
     Ok((low, high, kept, cache.evict(&mut me)))
 }

@@ -21,9 +21,13 @@ impl<R: Wait + Threads + Sync> Interner<'_, '_, R> {
     /// The number of a text; a new one where nobody has asked for it yet.
     fn number(&self, text: &str, me: &mut ThreadData) -> Option<u64> {
         let key = text.to_owned(self.alloc).ok()?;
-        let entry = self.numbers.entry(key, me).ok()?;
-        let number = entry.or_insert_with(|| self.next.fetch_add(1, Ordering::SeqCst));
-        Some(*number)
+        match self.numbers.entry(key, me) {
+            Ok(entry) => {
+                let number = entry.or_insert_with(|| self.next.fetch_add(1, Ordering::SeqCst));
+                Some(*number)
+            }
+            Err(_) => None,
+        }
     }
 
     /// The sum of the numbers of all words, each asked for often.
@@ -38,8 +42,10 @@ impl<R: Wait + Threads + Sync> Interner<'_, '_, R> {
     }
 
     /// The sums that two threads get beside each other.
-    fn both(&self, rt: &R, one: ThreadData, two: ThreadData) -> (u64, u64) {
-        thread::join(rt, || self.ask(one), || self.ask(two))
+    fn both(&self, lot: &ParkingLot<R>) -> Result<(u64, u64), LotFault> {
+        let one = lot.thread_data()?;
+        let two = lot.thread_data()?;
+        Ok(thread::join(lot.runtime(), || self.ask(one), || self.ask(two)))
     }
 }
 
@@ -55,7 +61,7 @@ where
         next: AtomicU64::new(0),
         alloc,
     };
-    let (one, two, mut me) = (lot.thread_data()?, lot.thread_data()?, lot.thread_data()?);
-    let (here, there) = interner.both(&rt, one, two);
+    let (here, there) = interner.both(&lot)?;
+    let mut me = lot.thread_data()?;
     Ok((here, there, interner.numbers.len(&mut me)))
 }

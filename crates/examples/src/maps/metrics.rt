@@ -54,8 +54,10 @@ impl<R: Wait + Threads + Sync> Metrics<'_, '_, R> {
     }
 
     /// Scrapes while a worker counts.
-    fn both(&self, rt: &R, one: ThreadData, two: ThreadData) -> bool {
-        thread::join(rt, || self.scrape(one), || self.work(two)).0
+    fn both(&self, lot: &ParkingLot<R>) -> Result<bool, LotFault> {
+        let one = lot.thread_data()?;
+        let two = lot.thread_data()?;
+        Ok(thread::join(lot.runtime(), || self.scrape(one), || self.work(two)).0)
     }
 
     /// What a counter has.
@@ -73,8 +75,8 @@ where
     let table = table_for(alloc, &lot, 1, 8)?;
     let counts = DashMap::with_shard_amount(alloc, 8, &table)?;
     let metrics = Metrics { counts };
-    let (one, two, mut me) = (lot.thread_data()?, lot.thread_data()?, lot.thread_data()?);
-    let grown = metrics.both(&rt, one, two);
+    let grown = metrics.both(&lot)?;
+    let mut me = lot.thread_data()?;
     let requests = metrics.read("requests", &mut me);
     let bytes = metrics.read("bytes", &mut me);
     Ok((grown, requests, bytes, metrics.read("errors", &mut me)))

@@ -31,9 +31,13 @@ impl<R: Wait + Threads + Sync> Registry<'_, '_, R> {
     }
 
     /// Three threads serve beside each other.
-    fn all(&self, rt: &R, a: ThreadData, b: ThreadData, c: ThreadData) -> u64 {
+    fn all(&self, lot: &ParkingLot<R>) -> Result<u64, LotFault> {
+        let rt = lot.runtime();
+        let a = lot.thread_data()?;
+        let b = lot.thread_data()?;
+        let c = lot.thread_data()?;
         let (ann, (ben, eve)) = thread::join(rt, || self.serve("ann", a), || self.both(rt, b, c));
-        ann.wrapping_add(ben).wrapping_add(eve)
+        Ok(ann.wrapping_add(ben).wrapping_add(eve))
     }
 
     /// Sends a message to each connection, and answers how many it reached.
@@ -60,9 +64,8 @@ where
     let table = table_for(alloc, &lot, 1, 8)?;
     let open = DashMap::with_shard_amount(alloc, 8, &table)?;
     let registry = Registry { open };
-    let (a, b, c) = (lot.thread_data()?, lot.thread_data()?, lot.thread_data()?);
+    let count = registry.all(&lot)?;
     let mut me = lot.thread_data()?;
-    let count = registry.all(&rt, a, b, c);
     let reached = registry.broadcast(&mut me);
     registry.open.retain(|(name, _), _| *name != "ben", &mut me);
     Ok((count, reached, registry.broadcast(&mut me)))
