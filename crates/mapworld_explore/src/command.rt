@@ -68,145 +68,206 @@ impl<'m, 'a> Options<'m, 'a> {
     }
 }
 
-fn file<'a>(alloc: Global) -> Arg<'a> {
-    Arg::new(alloc, "file")
-        .value_name("FILE")
-        .required(true)
-        .action(ArgAction::Set)
-        .help("a file of cases")
+/// What a word of a command line is.
+#[derive(Clone, Copy)]
+enum Kind {
+    /// A word that has to be there.
+    One,
+    /// Words, of which one has to be there.
+    Some,
+    /// An option with a word.
+    Word,
+    /// An option with a number.
+    Number,
+    /// An option alone.
+    Flag,
 }
 
-fn files<'a>(alloc: Global) -> Arg<'a> {
-    Arg::new(alloc, "file")
-        .value_name("FILES")
-        .required(true)
-        .action(ArgAction::Append)
-        .num_args(1..)
-        .help("files of cases")
+/// What may stand in a command line: its name, and what its value is called and is, for the help.
+#[derive(Clone, Copy)]
+struct Said {
+    kind: Kind,
+    name: &'static str,
+    value: &'static str,
+    help: &'static str,
 }
 
-fn outcome<'a>(alloc: Global) -> Arg<'a> {
-    Arg::new(alloc, "outcome")
-        .value_name("OUTCOME")
-        .required(true)
-        .action(ArgAction::Append)
-        .num_args(1..)
-        .help(
-            "its number, or words of it, as a.0=none contents 1=10; or run, for the case's own schedule",
-        )
-}
+const FILE: Said = Said {
+    kind: Kind::One,
+    name: "file",
+    value: "FILE",
+    help: "a file of cases",
+};
 
-fn number<'a>(alloc: Global, name: &'static str, help: &'static str) -> Arg<'a> {
-    Arg::new(alloc, name)
-        .long(name)
-        .value_name("N")
-        .action(ArgAction::Set)
-        .value_parser(clap::value_parser!(usize))
-        .help(help)
-}
+const FILES: Said = Said {
+    kind: Kind::Some,
+    name: "file",
+    value: "FILES",
+    help: "files of cases",
+};
 
-fn flag<'a>(alloc: Global, name: &'static str, help: &'static str) -> Arg<'a> {
-    Arg::new(alloc, name)
-        .long(name)
-        .action(ArgAction::SetTrue)
-        .help(help)
-}
+const OUTCOME: Said = Said {
+    kind: Kind::Some,
+    name: "outcome",
+    value: "OUTCOME",
+    help: "its number, or words of it, as a.0=none contents 1=10; or run, for the case's own schedule",
+};
 
-fn case<'a>(alloc: Global) -> Arg<'a> {
-    Arg::new(alloc, "case")
-        .long("case")
-        .value_name("NAME")
-        .action(ArgAction::Set)
-        .help("the case of the file that is meant, if not the first")
-}
+const CASE: Said = Said {
+    kind: Kind::Word,
+    name: "case",
+    value: "NAME",
+    help: "the case of the file that is meant, if not the first",
+};
 
-/// A command that searches.
-fn searching<'a>(
-    alloc: Global,
+const STATES: Said = Said {
+    kind: Kind::Number,
+    name: "states",
+    value: "N",
+    help: "stop behind so many states",
+};
+
+const STEPS: Said = Said {
+    kind: Kind::Number,
+    name: "steps",
+    value: "N",
+    help: "stop schedules behind so many steps",
+};
+
+const PLAIN: Said = Said {
+    kind: Kind::Flag,
+    name: "plain",
+    value: "",
+    help: "try each order of all steps, as a test",
+};
+
+const JSON: Said = Said {
+    kind: Kind::Flag,
+    name: "json",
+    value: "",
+    help: "for other programs",
+};
+
+const THREADS: Said = Said {
+    kind: Kind::Number,
+    name: "threads",
+    value: "N",
+    help: "so many threads; 5 if not told",
+};
+
+const CALLS: Said = Said {
+    kind: Kind::Number,
+    name: "calls",
+    value: "N",
+    help: "so many calls in all; 200 if not told",
+};
+
+const ONE: Said = Said {
+    kind: Kind::Flag,
+    name: "one",
+    value: "",
+    help: "all threads call one key, and not each its own",
+};
+
+/// A command: its name, what it does, and what may stand behind it.
+#[derive(Clone, Copy)]
+struct Told {
     name: &'static str,
     about: &'static str,
-) -> Result<Command<'a>, AllocError> {
-    Command::new(alloc, name)
-        .about(about)
-        .arg(number(alloc, "states", "stop behind so many states"))?
-        .arg(number(alloc, "steps", "stop schedules behind so many steps"))?
-        .arg(flag(alloc, "plain", "try each order of all steps, as a test"))
+    said: &'static [Said],
 }
 
-fn running<'a>(alloc: Global) -> Result<Command<'a>, AllocError> {
-    Command::new(alloc, "run")
-        .about("Run the cases of a file by their own schedules, and show what came of it")
-        .arg(file(alloc))
+const COMMANDS: &[Told] = &[
+    Told {
+        name: "run",
+        about: "Run the cases of a file by their own schedules, and show what came of it",
+        said: &[FILE],
+    },
+    Told {
+        name: "explore",
+        about: "List all that the cases of a file can come to, by every schedule",
+        said: &[STATES, STEPS, PLAIN, FILE, CASE, JSON],
+    },
+    Told {
+        name: "why",
+        about: "Tell a shortest schedule to an outcome, step by step",
+        said: &[STATES, STEPS, PLAIN, FILE, OUTCOME, CASE],
+    },
+    Told {
+        name: "picture",
+        about: "Draw that schedule, as a page of HTML",
+        said: &[STATES, STEPS, PLAIN, FILE, OUTCOME, CASE],
+    },
+    Told {
+        name: "check",
+        about: "Play the cases of files, and test what they claim of all schedules",
+        said: &[STATES, STEPS, PLAIN, FILES],
+    },
+    Told {
+        name: "time",
+        about: "Run a world with many calls, and tell what a step of it took",
+        said: &[THREADS, CALLS, ONE],
+    },
+];
+
+/// A word that has to be there, or words.
+fn word<'a>(alloc: Global, said: &Said) -> Arg<'a> {
+    let arg = Arg::new(alloc, said.name).value_name(said.value).required(true);
+    match said.kind {
+        Kind::Some => arg.action(ArgAction::Append).num_args(1..),
+        _ => arg.action(ArgAction::Set),
+    }
 }
 
-fn exploring<'a>(alloc: Global) -> Result<Command<'a>, AllocError> {
-    searching(
-        alloc,
-        "explore",
-        "List all that the cases of a file can come to, by every schedule",
-    )?
-    .arg(file(alloc))?
-    .arg(case(alloc))?
-    .arg(flag(alloc, "json", "for other programs"))
+/// An option.
+fn option<'a>(alloc: Global, said: &Said) -> Arg<'a> {
+    let arg = Arg::new(alloc, said.name).long(said.name);
+    match said.kind {
+        Kind::Flag => arg.action(ArgAction::SetTrue),
+        Kind::Number => valued(arg, said).value_parser(clap::value_parser!(usize)),
+        _ => valued(arg, said),
+    }
 }
 
-fn telling<'a>(
-    alloc: Global,
-    name: &'static str,
-    about: &'static str,
-) -> Result<Command<'a>, AllocError> {
-    searching(alloc, name, about)?
-        .arg(file(alloc))?
-        .arg(outcome(alloc))?
-        .arg(case(alloc))
+fn valued<'a>(arg: Arg<'a>, said: &Said) -> Arg<'a> {
+    arg.value_name(said.value).action(ArgAction::Set)
 }
 
-fn checking<'a>(alloc: Global) -> Result<Command<'a>, AllocError> {
-    searching(
-        alloc,
-        "check",
-        "Play the cases of files, and test what they claim of all schedules",
-    )?
-    .arg(files(alloc))
+fn arg_of<'a>(alloc: Global, said: &Said) -> Arg<'a> {
+    let arg = match said.kind {
+        Kind::One | Kind::Some => word(alloc, said),
+        _ => option(alloc, said),
+    };
+    arg.help(said.help)
 }
 
-fn timing<'a>(alloc: Global) -> Result<Command<'a>, AllocError> {
-    Command::new(alloc, "time")
-        .about("Run a world with many calls, and tell what a step of it took")
-        .arg(number(alloc, "threads", "so many threads; 5 if not told"))?
-        .arg(number(alloc, "calls", "so many calls in all; 200 if not told"))?
-        .arg(flag(
-            alloc,
-            "one",
-            "all threads call one key, and not each its own",
-        ))
+/// The arguments of a command.
+fn args_of<'a>(alloc: Global, said: &[Said]) -> Result<Vec<Arg<'a>>, AllocError> {
+    let mut args = Vec::new(alloc);
+    for one in said {
+        args.push(arg_of(alloc, one))?;
+    }
+    Ok(args)
 }
 
-/// What is told of outcomes.
-fn tellings<'a>(alloc: Global, command: Command<'a>) -> Result<Command<'a>, AllocError> {
-    command
-        .subcommand(telling(
-            alloc,
-            "why",
-            "Tell a shortest schedule to an outcome, step by step",
-        )?)?
-        .subcommand(telling(alloc, "picture", "Draw that schedule, as a page of HTML")?)
+fn command_of<'a>(alloc: Global, told: &Told) -> Result<Command<'a>, AllocError> {
+    let args = args_of(alloc, told.said)?;
+    Command::new(alloc, told.name).about(told.about).args(args)
 }
 
-/// What is done with all cases of files.
-fn runs<'a>(alloc: Global, command: Command<'a>) -> Result<Command<'a>, AllocError> {
-    command
-        .subcommand(running(alloc)?)?
-        .subcommand(exploring(alloc)?)
+fn commands_of<'a>(alloc: Global, all: &[Told]) -> Result<Vec<Command<'a>>, AllocError> {
+    let mut commands = Vec::new(alloc);
+    for told in all {
+        commands.push(command_of(alloc, told)?)?;
+    }
+    Ok(commands)
 }
 
 /// The whole of it.
 pub fn command_line<'a>(alloc: Global) -> Result<Command<'a>, AllocError> {
-    let command = Command::new(alloc, "mapworld_explore")
+    let commands = commands_of(alloc, COMMANDS)?;
+    Command::new(alloc, "mapworld_explore")
         .about("Every schedule of small programs of map calls")
-        .subcommand_required(true);
-    let command = tellings(alloc, runs(alloc, command)?)?;
-    command
-        .subcommand(checking(alloc)?)?
-        .subcommand(timing(alloc)?)
+        .subcommand_required(true)
+        .subcommands(commands)
 }

@@ -19,7 +19,7 @@ mod time;
 mod why;
 
 use crate::command::{Options, command_line};
-use std::alloc::AllocError;
+use clap::ArgMatches;
 use std::process::ExitCode;
 use std::{env, io};
 
@@ -43,16 +43,17 @@ fn start(rt: &HostRuntime) -> io::Result<ExitCode> {
 
 /// Does what the words of a command line ask for.
 fn follow<'a>(rt: &HostRuntime, words: &'a [String]) -> io::Result<ExitCode> {
-    let Ok(command) = command_line(rt.alloc()) else {
-        return Err(io::Error::from(AllocError));
-    };
-    let matches = match command.try_get_matches_from(words) {
-        Ok(matches) => matches,
-        Err(error) => {
-            error.print(rt)?;
-            return Ok(ExitCode::from(error.exit_code() as u8));
-        }
-    };
+    match command_line(rt.alloc()) {
+        Ok(command) => match command.try_get_matches_from(words) {
+            Ok(matches) => serve(rt, &matches),
+            Err(error) => tell_error(rt, &error),
+        },
+        Err(refused) => Err(io::Error::from(refused)),
+    }
+}
+
+/// Does what a command line asks for.
+fn serve(rt: &HostRuntime, matches: &ArgMatches<'_>) -> io::Result<ExitCode> {
     let Some((name, asked)) = matches.subcommand() else {
         return Ok(ExitCode::FAILURE);
     };
@@ -61,6 +62,12 @@ fn follow<'a>(rt: &HostRuntime, words: &'a [String]) -> io::Result<ExitCode> {
     } else {
         Ok(ExitCode::FAILURE)
     }
+}
+
+/// Tells why a command line asks for nothing that can be done, or what it asked to be told.
+fn tell_error(rt: &HostRuntime, error: &clap::Error) -> io::Result<ExitCode> {
+    error.print(rt)?;
+    Ok(ExitCode::from(error.exit_code() as u8))
 }
 
 fn main(rt: HostRuntime) -> ExitCode {

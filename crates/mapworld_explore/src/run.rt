@@ -2,9 +2,10 @@
 
 use crate::check::tell_failure;
 use crate::command::Options;
-use crate::files::{text_of, write_title};
+use crate::files::{text_of, title_of};
 use mapworld_explorer::{Played, World, play_once};
 use mapworld_text::{Case, Shown, read};
+use std::alloc::{AllocError, Global};
 use std::io;
 use std::rt::Files;
 
@@ -29,6 +30,22 @@ fn tell_blocks<R: Print>(rt: &R, case: &Case<'_>, world: &World) -> io::Result<(
     Ok(())
 }
 
+/// Tells who waits in a queue of a shard.
+fn tell_queue<R: Print>(
+    rt: &R,
+    case: &Case<'_>,
+    world: &World,
+    shard: usize,
+    queue: usize,
+) -> io::Result<()> {
+    if let Ok(threads) = world.queue(queue) {
+        for thread in &threads {
+            println!(rt; "  {} waits for shard {shard}", case.name_of(*thread))?;
+        }
+    }
+    Ok(())
+}
+
 /// Tells the words of locks that aren't free, and who waits there.
 fn tell_locks<R: Print>(rt: &R, case: &Case<'_>, world: &World) -> io::Result<()> {
     for shard in 0..world.shards() {
@@ -36,24 +53,26 @@ fn tell_locks<R: Print>(rt: &R, case: &Case<'_>, world: &World) -> io::Result<()
         if word != 0 {
             println!(rt; "  the word of shard {shard} is {word}")?;
         }
-        for queue in 0..2_usize {
-            if let Ok(threads) = world.queue(shard.saturating_mul(2).saturating_add(queue)) {
-                for thread in &threads {
-                    println!(rt; "  {} waits for shard {shard}", case.name_of(*thread))?;
-                }
-            }
-        }
+        let queue = shard.saturating_mul(2);
+        tell_queue(rt, case, world, shard, queue)?;
+        tell_queue(rt, case, world, shard, queue.saturating_add(1))?;
     }
     Ok(())
 }
 
-/// Tells the pairs of the map.
-fn tell_contents<R: Print + AllocGlobal>(rt: &R, world: &World) -> io::Result<()> {
-    let mut pairs: Vec<(u64, u64)> = Vec::new(rt.alloc());
+/// The pairs of the map, by their keys.
+fn sorted_pairs(alloc: Global, world: &World) -> Result<Vec<(u64, u64)>, AllocError> {
+    let mut pairs: Vec<(u64, u64)> = Vec::new(alloc);
     for (key, value) in world.pairs() {
         pairs.push((*key, *value))?;
     }
     pairs.sort_unstable();
+    Ok(pairs)
+}
+
+/// Tells the pairs of the map.
+fn tell_contents<R: Print + AllocGlobal>(rt: &R, world: &World) -> io::Result<()> {
+    let pairs = sorted_pairs(rt.alloc(), world)?;
     if pairs.is_empty() {
         return println!(rt; "  contents none");
     }
@@ -89,8 +108,7 @@ fn tell_played<R: Print + AllocGlobal>(
 
 /// Runs a case; says whether its own lines are so.
 fn run_case<R: Print + AllocGlobal>(rt: &R, file: &str, case: &Case<'_>) -> io::Result<bool> {
-    let mut title = String::new(rt.alloc());
-    write_title(file, case, &mut title)?;
+    let title = title_of(rt.alloc(), file, case)?;
     match play_once(rt.alloc(), case) {
         Ok(played) => tell_played(rt, file, case, title.as_str(), &played),
         Err(fault) => {
@@ -100,24 +118,27 @@ fn run_case<R: Print + AllocGlobal>(rt: &R, file: &str, case: &Case<'_>) -> io::
     }
 }
 
-/// Runs the cases of a file; says whether their own lines are so.
-fn run_file<R: Files + Print + Eprint + AllocGlobal>(rt: &R, file: &str) -> io::Result<bool> {
-    let Some(text) = text_of(rt, file)? else {
-        return Ok(false);
-    };
+/// Runs cases; says whether their own lines are so.
+fn run_cases<R: Print + AllocGlobal>(rt: &R, file: &str, cases: &[Case<'_>]) -> io::Result<bool> {
     let mut is_so = true;
-    match read(rt.alloc(), text.as_str()) {
-        Ok(cases) => {
-            for case in &cases {
-                is_so = is_so & run_case(rt, file, case)?;
-            }
-        }
-        Err(fault) => {
-            eprintln!(rt; "{file}: {fault}")?;
-            is_so = false;
-        }
+    for case in cases {
+        is_so = is_so & run_case(rt, file, case)?;
     }
     Ok(is_so)
+}
+
+/// Runs the cases of a file; says whether their own lines are so.
+fn run_file<R: Files + Print + Eprint + AllocGlobal>(rt: &R, file: &str) -> io::Result<bool> {
+    match text_of(rt, file)? {
+        Some(text) => match read(rt.alloc(), text.as_str()) {
+            Ok(cases) => run_cases(rt, file, &cases),
+            Err(fault) => {
+                eprintln!(rt; "{file}: {fault}")?;
+                Ok(false)
+            }
+        },
+        None => Ok(false),
+    }
 }
 
 /// Runs the cases of all files that are named.
