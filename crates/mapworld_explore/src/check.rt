@@ -16,6 +16,11 @@ struct Tally {
 }
 
 impl Tally {
+    const NOTHING: Tally = Tally {
+        passed: 0,
+        failed: 0,
+    };
+
     fn add(self, other: Tally) -> Tally {
         Tally {
             passed: self.passed.saturating_add(other.passed),
@@ -99,7 +104,11 @@ fn told_outcome(
 ) -> Result<String, AllocError> {
     let text = outcome_text(alloc, case, outcome)?;
     let way = way_to(alloc, case, search, outcome)?;
-    format!(in alloc; "not so of `{}`, to which leads\n  {}", text.as_str(), way.as_str())
+    format!(in alloc;
+        "not so of `{}`, to which leads\n  {}",
+        text.as_str(),
+        way.as_str()
+    )
 }
 
 /// Tells which claim of a case isn't so, and by which schedule.
@@ -200,10 +209,7 @@ fn check_cases<R: Print + Eprint + AllocGlobal>(
     file: &str,
     cases: &[Case<'_>],
 ) -> io::Result<Tally> {
-    let mut tally = Tally {
-        passed: 0,
-        failed: 0,
-    };
+    let mut tally = Tally::NOTHING;
     for case in cases {
         tally = tally.add(counted(passes(rt, options, file, case)?));
     }
@@ -237,13 +243,9 @@ pub fn check<R: Files + Print + Eprint + AllocGlobal>(
     let Some(files) = options.files() else {
         return Ok(false);
     };
-    let mut tally = Tally {
-        passed: 0,
-        failed: 0,
-    };
+    let mut tally = Tally::NOTHING;
     for file in files {
-        let more = check_file(rt, options, file)?;
-        tally = tally.add(more);
+        tally = tally.add(check_file(rt, options, file)?);
     }
     println!(rt; "{} passed, {} failed", tally.passed, tally.failed)?;
     Ok(tally.failed == 0)

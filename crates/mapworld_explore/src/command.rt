@@ -68,106 +68,50 @@ impl<'m, 'a> Options<'m, 'a> {
     }
 }
 
-/// What a word of a command line is.
+/// What may stand in a command line: its name, and for the help what its value is called and what it is.
 #[derive(Clone, Copy)]
-enum Kind {
+enum Said {
     /// A word that has to be there.
-    One,
+    One(&'static str, &'static str, &'static str),
     /// Words, of which one has to be there.
-    Some,
+    Some(&'static str, &'static str, &'static str),
     /// An option with a word.
-    Word,
+    Word(&'static str, &'static str, &'static str),
     /// An option with a number.
-    Number,
+    Number(&'static str, &'static str),
     /// An option alone.
-    Flag,
+    Flag(&'static str, &'static str),
 }
 
-/// What may stand in a command line: its name, and what its value is called and is, for the help.
-#[derive(Clone, Copy)]
-struct Said {
-    kind: Kind,
-    name: &'static str,
-    value: &'static str,
-    help: &'static str,
-}
+const FILE: Said = Said::One("file", "FILE", "a file of cases");
 
-const FILE: Said = Said {
-    kind: Kind::One,
-    name: "file",
-    value: "FILE",
-    help: "a file of cases",
-};
+const FILES: Said = Said::Some("file", "FILES", "files of cases");
 
-const FILES: Said = Said {
-    kind: Kind::Some,
-    name: "file",
-    value: "FILES",
-    help: "files of cases",
-};
+const OUTCOME: Said = Said::Some(
+    "outcome",
+    "OUTCOME",
+    "its number, or words of it, as a.0=none contents 1=10; or run, for the case's own schedule",
+);
 
-const OUTCOME: Said = Said {
-    kind: Kind::Some,
-    name: "outcome",
-    value: "OUTCOME",
-    help: "its number, or words of it, as a.0=none contents 1=10; or run, for the case's own schedule",
-};
+const CASE: Said = Said::Word(
+    "case",
+    "NAME",
+    "the case of the file that is meant, if not the first",
+);
 
-const CASE: Said = Said {
-    kind: Kind::Word,
-    name: "case",
-    value: "NAME",
-    help: "the case of the file that is meant, if not the first",
-};
+const STATES: Said = Said::Number("states", "stop behind so many states");
 
-const STATES: Said = Said {
-    kind: Kind::Number,
-    name: "states",
-    value: "N",
-    help: "stop behind so many states",
-};
+const STEPS: Said = Said::Number("steps", "stop schedules behind so many steps");
 
-const STEPS: Said = Said {
-    kind: Kind::Number,
-    name: "steps",
-    value: "N",
-    help: "stop schedules behind so many steps",
-};
+const PLAIN: Said = Said::Flag("plain", "try each order of all steps, as a test");
 
-const PLAIN: Said = Said {
-    kind: Kind::Flag,
-    name: "plain",
-    value: "",
-    help: "try each order of all steps, as a test",
-};
+const JSON: Said = Said::Flag("json", "for other programs");
 
-const JSON: Said = Said {
-    kind: Kind::Flag,
-    name: "json",
-    value: "",
-    help: "for other programs",
-};
+const THREADS: Said = Said::Number("threads", "so many threads; 5 if not told");
 
-const THREADS: Said = Said {
-    kind: Kind::Number,
-    name: "threads",
-    value: "N",
-    help: "so many threads; 5 if not told",
-};
+const CALLS: Said = Said::Number("calls", "so many calls in all; 200 if not told");
 
-const CALLS: Said = Said {
-    kind: Kind::Number,
-    name: "calls",
-    value: "N",
-    help: "so many calls in all; 200 if not told",
-};
-
-const ONE: Said = Said {
-    kind: Kind::Flag,
-    name: "one",
-    value: "",
-    help: "all threads call one key, and not each its own",
-};
+const ONE: Said = Said::Flag("one", "all threads call one key, and not each its own");
 
 /// A command: its name, what it does, and what may stand behind it.
 #[derive(Clone, Copy)]
@@ -211,41 +155,42 @@ const COMMANDS: &[Told] = &[
 ];
 
 /// A word that has to be there, or words.
-fn word<'a>(alloc: Global, said: &Said) -> Arg<'a> {
-    let arg = Arg::new(alloc, said.name).value_name(said.value).required(true);
-    match said.kind {
-        Kind::Some => arg.action(ArgAction::Append).num_args(1..),
-        _ => arg.action(ArgAction::Set),
+fn word<'a>(alloc: Global, name: &'static str, value: &'static str) -> Arg<'a> {
+    Arg::new(alloc, name).value_name(value).required(true)
+}
+
+/// An option with a value.
+fn option<'a>(alloc: Global, name: &'static str, value: &'static str) -> Arg<'a> {
+    let arg = Arg::new(alloc, name).long(name).value_name(value);
+    arg.action(ArgAction::Set)
+}
+
+fn arg_of<'a>(alloc: Global, said: Said) -> Arg<'a> {
+    match said {
+        Said::One(name, value, help) => {
+            word(alloc, name, value).action(ArgAction::Set).help(help)
+        }
+        Said::Some(name, value, help) => {
+            let arg = word(alloc, name, value).action(ArgAction::Append);
+            arg.num_args(1..).help(help)
+        }
+        Said::Word(name, value, help) => option(alloc, name, value).help(help),
+        Said::Number(name, help) => {
+            let arg = option(alloc, name, "N").help(help);
+            arg.value_parser(clap::value_parser!(usize))
+        }
+        Said::Flag(name, help) => {
+            let arg = Arg::new(alloc, name).long(name).help(help);
+            arg.action(ArgAction::SetTrue)
+        }
     }
-}
-
-/// An option.
-fn option<'a>(alloc: Global, said: &Said) -> Arg<'a> {
-    let arg = Arg::new(alloc, said.name).long(said.name);
-    match said.kind {
-        Kind::Flag => arg.action(ArgAction::SetTrue),
-        Kind::Number => valued(arg, said).value_parser(clap::value_parser!(usize)),
-        _ => valued(arg, said),
-    }
-}
-
-fn valued<'a>(arg: Arg<'a>, said: &Said) -> Arg<'a> {
-    arg.value_name(said.value).action(ArgAction::Set)
-}
-
-fn arg_of<'a>(alloc: Global, said: &Said) -> Arg<'a> {
-    let arg = match said.kind {
-        Kind::One | Kind::Some => word(alloc, said),
-        _ => option(alloc, said),
-    };
-    arg.help(said.help)
 }
 
 /// The arguments of a command.
 fn args_of<'a>(alloc: Global, said: &[Said]) -> Result<Vec<Arg<'a>>, AllocError> {
     let mut args = Vec::new(alloc);
     for one in said {
-        args.push(arg_of(alloc, one))?;
+        args.push(arg_of(alloc, *one))?;
     }
     Ok(args)
 }

@@ -1,15 +1,12 @@
 //! All that the cases of a file can come to.
 
 use crate::command::Options;
-use crate::files::{
-    is_meant, limit_name, outcome_text, schedule_text, searched, text_of, title_of,
-};
+use crate::files::{is_meant, limit_name, outcome_text, schedule_text, searched, title_of};
 use crate::json::json_of;
 use mapworld::Step;
 use mapworld_explorer::{Outcome, Search, outcome_behind};
-use mapworld_text::{Case, read};
+use mapworld_text::Case;
 use std::io;
-use std::rt::Files;
 
 /// Tells an outcome that was read off a world, and the schedule that led there, to which so many ends come.
 fn tell_led<R: Print + AllocGlobal>(
@@ -22,7 +19,10 @@ fn tell_led<R: Print + AllocGlobal>(
 ) -> io::Result<()> {
     let text = outcome_text(rt.alloc(), case, led)?;
     println!(rt; "outcome {number}: {}", text.as_str())?;
-    println!(rt; "  at {at} of {ends} ends, the nearest by {} steps:", led.steps)?;
+    println!(rt;
+        "  at {at} of {ends} ends, the nearest by {} steps:",
+        led.steps
+    )?;
     let steps = schedule_text(rt.alloc(), case, schedule)?;
     println!(rt; "  {}", steps.as_str())
 }
@@ -125,7 +125,7 @@ fn explore_case<R: Print + Eprint + AllocGlobal>(
 }
 
 /// Explores the cases that are meant; says whether that came to its end.
-fn explore_cases<R: Print + Eprint + AllocGlobal>(
+pub fn explore_cases<R: Print + Eprint + AllocGlobal>(
     rt: &R,
     options: &Options<'_, '_>,
     file: &str,
@@ -136,39 +136,6 @@ fn explore_cases<R: Print + Eprint + AllocGlobal>(
         if is_meant(options, case) {
             is_whole = is_whole & explore_case(rt, options, file, case)?;
         }
-    }
-    Ok(is_whole)
-}
-
-/// Explores the cases of a file that are meant; says whether that came to its end.
-fn explore_file<R: Files + Print + Eprint + AllocGlobal>(
-    rt: &R,
-    options: &Options<'_, '_>,
-    file: &str,
-) -> io::Result<bool> {
-    match text_of(rt, file)? {
-        Some(text) => match read(rt.alloc(), text.as_str()) {
-            Ok(cases) => explore_cases(rt, options, file, &cases),
-            Err(fault) => {
-                eprintln!(rt; "{file}: {fault}")?;
-                Ok(false)
-            }
-        },
-        None => Ok(false),
-    }
-}
-
-/// Explores the cases of all files that are named.
-pub fn explore<R: Files + Print + Eprint + AllocGlobal>(
-    rt: &R,
-    options: &Options<'_, '_>,
-) -> io::Result<bool> {
-    let Some(files) = options.files() else {
-        return Ok(false);
-    };
-    let mut is_whole = true;
-    for file in files {
-        is_whole = is_whole & explore_file(rt, options, file)?;
     }
     Ok(is_whole)
 }

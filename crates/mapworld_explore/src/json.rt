@@ -43,11 +43,7 @@ impl Object {
 }
 
 /// Tells what a call is answered.
-fn put_answer(
-    case: &Case<'_>,
-    answer: &Answering,
-    object: &mut Object,
-) -> Result<(), AllocError> {
+fn put_answer(case: &Case<'_>, answer: &Answering, object: &mut Object) -> Result<(), AllocError> {
     object.put_text("thread", case.name_of(answer.thread))?;
     object.put_number("call", answer.call)?;
     object.put_text("asked", case.call_of(answer.thread, answer.call))?;

@@ -7,6 +7,7 @@
 mod check;
 mod column;
 mod command;
+mod each_file;
 mod explore;
 mod files;
 mod json;
@@ -19,6 +20,8 @@ mod time;
 mod why;
 
 use crate::command::{Options, command_line};
+use crate::each_file::{Work, each};
+use crate::why::Form;
 use clap::ArgMatches;
 use std::process::ExitCode;
 use std::{env, io};
@@ -26,10 +29,10 @@ use std::{env, io};
 /// Does what the command line asks for; says whether all was as it is to be.
 fn obey(rt: &HostRuntime, name: &str, options: &Options<'_, '_>) -> io::Result<bool> {
     match name {
-        "run" => run::run(rt, options),
-        "explore" => explore::explore(rt, options),
-        "why" => why::why(rt, options),
-        "picture" => why::picture(rt, options),
+        "run" => each(rt, options, Work::Run),
+        "explore" => each(rt, options, Work::Explore),
+        "why" => each(rt, options, Work::Tell(Form::Words)),
+        "picture" => each(rt, options, Work::Tell(Form::Picture)),
         "time" => time::time(rt, options),
         _ => check::check(rt, options),
     }

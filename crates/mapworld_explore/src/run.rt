@@ -1,13 +1,11 @@
 //! Cases of a file by their own schedules.
 
 use crate::check::tell_failure;
-use crate::command::Options;
-use crate::files::{text_of, title_of};
+use crate::files::title_of;
 use mapworld_explorer::{Played, World, play_once};
-use mapworld_text::{Case, Shown, read};
+use mapworld_text::{Case, Shown};
 use std::alloc::{AllocError, Global};
 use std::io;
-use std::rt::Files;
 
 /// Tells what each call was answered.
 fn tell_replies<R: Print>(rt: &R, case: &Case<'_>, world: &World) -> io::Result<()> {
@@ -119,39 +117,14 @@ fn run_case<R: Print + AllocGlobal>(rt: &R, file: &str, case: &Case<'_>) -> io::
 }
 
 /// Runs cases; says whether their own lines are so.
-fn run_cases<R: Print + AllocGlobal>(rt: &R, file: &str, cases: &[Case<'_>]) -> io::Result<bool> {
+pub fn run_cases<R: Print + AllocGlobal>(
+    rt: &R,
+    file: &str,
+    cases: &[Case<'_>],
+) -> io::Result<bool> {
     let mut is_so = true;
     for case in cases {
         is_so = is_so & run_case(rt, file, case)?;
-    }
-    Ok(is_so)
-}
-
-/// Runs the cases of a file; says whether their own lines are so.
-fn run_file<R: Files + Print + Eprint + AllocGlobal>(rt: &R, file: &str) -> io::Result<bool> {
-    match text_of(rt, file)? {
-        Some(text) => match read(rt.alloc(), text.as_str()) {
-            Ok(cases) => run_cases(rt, file, &cases),
-            Err(fault) => {
-                eprintln!(rt; "{file}: {fault}")?;
-                Ok(false)
-            }
-        },
-        None => Ok(false),
-    }
-}
-
-/// Runs the cases of all files that are named.
-pub fn run<R: Files + Print + Eprint + AllocGlobal>(
-    rt: &R,
-    options: &Options<'_, '_>,
-) -> io::Result<bool> {
-    let Some(files) = options.files() else {
-        return Ok(false);
-    };
-    let mut is_so = true;
-    for file in files {
-        is_so = is_so & run_file(rt, file)?;
     }
     Ok(is_so)
 }

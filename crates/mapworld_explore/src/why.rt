@@ -1,21 +1,20 @@
 //! One schedule to an outcome, in words and as a picture.
 
 use crate::command::Options;
-use crate::files::{meant, outcome_text, searched, text_of};
+use crate::files::{meant, outcome_text, searched};
 use crate::late::with_late_starts;
 use crate::picture::page;
 use mapworld::Step;
 use mapworld_explorer::{
     Course, ExploreFault, Outcome, Search, course_of, is_so, outcome_behind, play_once,
 };
-use mapworld_text::{Case, Expected, read, terms};
+use mapworld_text::{Case, Expected, terms};
 use std::alloc::Global;
 use std::io;
-use std::rt::Files;
 
 /// How an outcome's schedule is told.
 #[derive(Clone, Copy, PartialEq, Eq)]
-enum Form {
+pub enum Form {
     Words,
     Picture,
 }
@@ -86,17 +85,6 @@ fn tell_schedule<R: Print + Eprint + AllocGlobal>(
     }
 }
 
-/// The steps of a shortest schedule to an outcome.
-fn schedule_to(
-    alloc: Global,
-    case: &Case<'_>,
-    search: &Search<'_, '_>,
-    outcome: &Outcome,
-) -> Result<Vec<Step>, ExploreFault> {
-    let schedule = search.schedule(outcome.state)?;
-    with_late_starts(alloc, case, &schedule)
-}
-
 /// Tells a case's own schedule.
 fn tell_own<R: Print + Eprint + AllocGlobal>(
     rt: &R,
@@ -134,7 +122,8 @@ fn told_schedule(
     outcome: &Outcome,
     number: usize,
 ) -> Result<(Vec<Step>, String), ExploreFault> {
-    let schedule = schedule_to(alloc, case, search, outcome)?;
+    let shortest = search.schedule(outcome.state)?;
+    let schedule = with_late_starts(alloc, case, &shortest)?;
     let heading = heading_of(alloc, case, &schedule, number, search.outcomes.len())?;
     Ok((schedule, heading))
 }
@@ -220,7 +209,7 @@ fn tell_case<R: Print + Eprint + AllocGlobal>(
 }
 
 /// Tells one schedule to an outcome of the case that is meant.
-fn tell_meant<R: Print + Eprint + AllocGlobal>(
+pub fn tell_meant<R: Print + Eprint + AllocGlobal>(
     rt: &R,
     options: &Options<'_, '_>,
     form: Form,
@@ -234,55 +223,4 @@ fn tell_meant<R: Print + Eprint + AllocGlobal>(
             Ok(false)
         }
     }
-}
-
-/// Tells one schedule to an outcome of a file's case.
-fn tell_file<R: Files + Print + Eprint + AllocGlobal>(
-    rt: &R,
-    options: &Options<'_, '_>,
-    form: Form,
-    file: &str,
-) -> io::Result<bool> {
-    match text_of(rt, file)? {
-        Some(text) => match read(rt.alloc(), text.as_str()) {
-            Ok(cases) => tell_meant(rt, options, form, file, &cases),
-            Err(fault) => {
-                eprintln!(rt; "{file}: {fault}")?;
-                Ok(false)
-            }
-        },
-        None => Ok(false),
-    }
-}
-
-/// Tells one schedule to an outcome of the case that is meant, of each file that is named.
-fn tell_files<R: Files + Print + Eprint + AllocGlobal>(
-    rt: &R,
-    options: &Options<'_, '_>,
-    form: Form,
-) -> io::Result<bool> {
-    let Some(files) = options.files() else {
-        return Ok(false);
-    };
-    let mut is_told = true;
-    for file in files {
-        is_told = is_told & tell_file(rt, options, form, file)?;
-    }
-    Ok(is_told)
-}
-
-/// Tells one schedule to an outcome in words.
-pub fn why<R: Files + Print + Eprint + AllocGlobal>(
-    rt: &R,
-    options: &Options<'_, '_>,
-) -> io::Result<bool> {
-    tell_files(rt, options, Form::Words)
-}
-
-/// Draws one schedule to an outcome.
-pub fn picture<R: Files + Print + Eprint + AllocGlobal>(
-    rt: &R,
-    options: &Options<'_, '_>,
-) -> io::Result<bool> {
-    tell_files(rt, options, Form::Picture)
 }

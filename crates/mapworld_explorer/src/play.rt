@@ -208,6 +208,23 @@ pub(crate) fn bits_of(threads: &[usize], choice: u64) -> u64 {
     bits
 }
 
+/// Plays a case by rounds, and again by drains where it has an end, and gives the first failure.
+fn failure_at_ends(
+    alloc: Global,
+    case: &Case<'_>,
+    fair: u64,
+    is_ended: bool,
+) -> Result<Option<Failure>, AllocError> {
+    let ending = Ending::Round;
+    match failure_by(alloc, case, Way { ending, fair })? {
+        None if is_ended => {
+            let ending = Ending::Drain;
+            failure_by(alloc, case, Way { ending, fair })
+        }
+        failure => Ok(failure),
+    }
+}
+
 /// Plays a case in each way that it may be, and gives the first that fails.
 pub fn failure_of(alloc: Global, case: &Case<'_>) -> Result<Option<Failure>, AllocError> {
     let always = bits_of(&case.fair, u64::MAX);
@@ -220,13 +237,9 @@ pub fn failure_of(alloc: Global, case: &Case<'_>) -> Result<Option<Failure>, All
         .unwrap_or(1);
     for choice in 0..choices {
         let fair = always | bits_of(&case.either, choice);
-        for ending in [Ending::Round, Ending::Drain] {
-            if ending == Ending::Round || is_ended {
-                let failure = failure_by(alloc, case, Way { ending, fair })?;
-                if failure.is_some() {
-                    return Ok(failure);
-                }
-            }
+        let failure = failure_at_ends(alloc, case, fair, is_ended)?;
+        if failure.is_some() {
+            return Ok(failure);
         }
     }
     Ok(None)

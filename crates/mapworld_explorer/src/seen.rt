@@ -14,6 +14,14 @@ fn yes_or_no(is_so: bool) -> &'static str {
     if is_so { "yes" } else { "no" }
 }
 
+fn write_count(count: usize, out: &mut String) -> Written {
+    write!(out, "{count}")
+}
+
+fn write_number(number: u64, out: &mut String) -> Written {
+    write!(out, "{number}")
+}
+
 fn write_reply(world: &World, thread: usize, call: usize, out: &mut String) -> Written {
     let found = world
         .replies()
@@ -174,21 +182,21 @@ pub(crate) fn write_seen(
     match view {
         View::World => out.push_str("made"),
         View::Reply(thread, call) => write_reply(world, thread, call, out),
-        View::Replies => write!(out, "{}", world.replies().len()),
-        View::Blocks(thread, call) => write!(out, "{}", blocks_of(world, thread, call)),
+        View::Replies => write_count(world.replies().len(), out),
+        View::Blocks(thread, call) => write_count(blocks_of(world, thread, call), out),
         View::Block(thread, call, visit) => write_block(world, (thread, call, visit), out),
         View::Items(thread, call) => write_items(world, thread, call, out),
-        View::Having(value) => write!(out, "{}", having(world, value)),
+        View::Having(value) => write_count(having(world, value), out),
         View::Pair(key) => write_pair(world, key, out),
         View::Pairs => write_pairs(traced, out),
-        View::Shard(key) => write!(out, "{}", world.shard_of(&key)),
-        View::Word(shard) => write!(out, "{}", world.word(shard)),
+        View::Shard(key) => write_count(world.shard_of(&key), out),
+        View::Word(shard) => write_number(world.word(shard), out),
         View::Words(shard) => write_words(traced, shard, out),
         View::Queue(key) => write_queue(world, case, key, out),
         View::Status(thread) => out.push_str(status_of(world, thread)),
         View::Moves(thread) => out.push_str(yes_or_no(world.can_move(thread))),
         View::Started(thread) => write_started(world, thread, out),
-        View::Steps => write!(out, "{}", world.steps()),
-        View::Bound => write!(out, "{}", world.bound()),
+        View::Steps => write_number(world.steps(), out),
+        View::Bound => write_number(world.bound(), out),
     }
 }

@@ -98,20 +98,31 @@ fn write_yielding(phase: UpgradePhase, out: &mut String) -> Written {
     }
 }
 
-/// Where a thread's call at a lock stands, and how it holds the locks.
-fn write_call(world: &World, thread: usize, out: &mut String) -> Written {
-    let machine = world.locks().machine();
-    if let Some(call) = machine.call(thread) {
-        write!(out, "; {} {} {:?}", call.lock, call.others, call.spot)?;
-        match call.core {
-            Core::Rw(core) => write!(out, " {:?}", core.phase())?,
-            Core::LateRw(late) => write_late(late, out)?,
-            Core::Upgrade(core) => write_yielding(core.phase(), out)?,
-            Core::Mutex(_) | Core::Late(_) => {}
-        }
+/// How far a thread's call at a lock is.
+fn write_core(core: Core, out: &mut String) -> Written {
+    match core {
+        Core::Rw(core) => write!(out, " {:?}", core.phase()),
+        Core::LateRw(late) => write_late(late, out),
+        Core::Upgrade(core) => write_yielding(core.phase(), out),
+        Core::Mutex(_) | Core::Late(_) => Ok(()),
     }
+}
+
+/// Where a thread's call at a lock stands.
+fn write_call(world: &World, thread: usize, out: &mut String) -> Written {
+    match world.locks().machine().call(thread) {
+        Some(call) => {
+            write!(out, "; {} {} {:?}", call.lock, call.others, call.spot)?;
+            write_core(call.core, out)
+        }
+        None => Ok(()),
+    }
+}
+
+/// How a thread holds the locks.
+fn write_holds(world: &World, thread: usize, out: &mut String) -> Written {
     for shard in 0..world.shards() {
-        match machine.hold(thread, shard) {
+        match world.locks().machine().hold(thread, shard) {
             Hold::Shares(0) => {}
             hold => write!(out, " {shard}{hold:?}")?,
         }
@@ -195,15 +206,21 @@ fn write_answers(alloc: Global, world: &World, thread: usize, out: &mut String) 
     Ok(())
 }
 
+/// Writes where a thread stands, and what it was answered so far.
+fn write_thread(alloc: Global, world: &World, thread: usize, out: &mut String) -> Written {
+    if let Some(stand) = world.place(thread) {
+        write_stand(alloc, stand, out)?;
+    }
+    write_call(world, thread, out)?;
+    write_holds(world, thread, out)?;
+    write_sleep(world, thread, out)?;
+    write_answers(alloc, world, thread, out)
+}
+
 /// Writes a state: two of which the texts are the same go on alike, step numbers aside, and were answered alike.
 fn write_state(alloc: Global, world: &World, out: &mut String) -> Written {
     for thread in 0..world.threads() {
-        if let Some(stand) = world.place(thread) {
-            write_stand(alloc, stand, out)?;
-        }
-        write_call(world, thread, out)?;
-        write_sleep(world, thread, out)?;
-        write_answers(alloc, world, thread, out)?;
+        write_thread(alloc, world, thread, out)?;
     }
     write_locks(world, out)?;
     write_tables(world, out)?;

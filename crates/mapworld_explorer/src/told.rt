@@ -5,12 +5,77 @@ use crate::worlds::World;
 use lock_api_desk::Mode;
 use mapworld::Step;
 use mapworld_calls::Ask;
-use mapworld_text::{Asked, Case};
+use mapworld_text::{Asked, Case, Shown};
 use parking_lot_machine::{Act, SectionAct};
 use std::alloc::AllocError;
 
 /// What is written.
 type Written = Result<(), AllocError>;
+
+/// How a step is told.
+#[derive(Clone, Copy)]
+enum Words {
+    /// By these words.
+    Plain(&'static str),
+    /// By words around the number of its shard.
+    Shard(&'static str, &'static str),
+    /// As a look at the word of its shard, by words behind the shard's number.
+    Look(&'static str),
+    /// As a change of the word of its shard, by its verb.
+    Change(&'static str),
+    /// By words around the text of its call.
+    Call(&'static str, &'static str),
+}
+
+/// How a step at a lock is told, where that doesn't take more than the words of the lock.
+fn words_of_act(act: Act) -> Words {
+    match act {
+        Act::Load => Words::Look(""),
+        Act::Add(_) | Act::FetchAnd(_) => Words::Change("changes"),
+        Act::Spin => Words::Plain("spins"),
+        Act::Enter(_) => Words::Shard("enters the section of", "'s queues"),
+        Act::Section(act) => words_of_section(act),
+        Act::Sleep => Words::Shard(
+            "is past its deadline, and goes on to leave the queues of",
+            "",
+        ),
+        Act::Exchange(..) | Act::Done(_) => Words::Plain(""),
+    }
+}
+
+/// How a step in the section of a lock's queues is told.
+fn words_of_section(act: SectionAct) -> Words {
+    match act {
+        SectionAct::Check => Words::Look(" once more"),
+        SectionAct::TakeFirst | SectionAct::TakeNext(_) => {
+            Words::Shard("looks for a thread in the queue of", " to wake")
+        }
+        SectionAct::Append(_) => Words::Shard("joins the queue of", ""),
+        SectionAct::Store { .. } => Words::Change("stores"),
+        SectionAct::Leave => Words::Shard("leaves the section of", "'s queues"),
+        SectionAct::Wake => Words::Plain("wakes a thread"),
+    }
+}
+
+/// How a step of a call's own work of that kind is told.
+fn words_of_work(kind: u8) -> Words {
+    match kind {
+        0 => Words::Call("starts", ""),
+        1 | 14 => Words::Shard("looks into", ""),
+        3 => Words::Shard("makes room in", ""),
+        4 => Words::Plain("adds the pair"),
+        5 | 8 => Words::Call("does", " with the pair"),
+        6 | 7 => Words::Plain("reads the pair"),
+        9 => Words::Plain("adds the pair at its entry"),
+        10 => Words::Plain("turns its guard into a shared one"),
+        12 => Words::Shard("looks into", ", which it has"),
+        15 => Words::Plain("finds the next pair"),
+        16 => Words::Plain("does with a pair what the walk does"),
+        17 | 19 => Words::Shard("is to give", " up"),
+        18 => Words::Plain("asks for the next shard"),
+        _ => Words::Call("ends", ""),
+    }
+}
 
 /// What is known of a thread before its step.
 #[derive(Clone, Copy)]
@@ -69,6 +134,26 @@ impl Before {
         }
     }
 
+    /// Writes a step as it is told; the word of its shard is now that.
+    fn write_words(&self, words: Words, case: &Case<'_>, word: u64, out: &mut String) -> Written {
+        let (shard, from) = (self.shard, self.word);
+        match words {
+            Words::Plain(words) => out.push_str(words),
+            Words::Shard(before, after) => write!(out, "{before} shard {shard}{after}"),
+            Words::Look(after) => write!(out, "looks at the word of shard {shard}{after}: {word}"),
+            Words::Change(verb) => {
+                write!(
+                    out,
+                    "{verb} the word of shard {shard}: {from} becomes {word}"
+                )
+            }
+            Words::Call(before, after) => {
+                let call = case.call_of(self.thread, self.call);
+                write!(out, "{before} `{call}`{after}")
+            }
+        }
+    }
+
     /// Writes what the step was, which has led to this world.
     pub(crate) fn write(&self, world: &World, case: &Case<'_>, out: &mut String) -> Written {
         out.push_str(case.name_of(self.thread))?;
@@ -82,13 +167,11 @@ impl Before {
         }
         match self.act {
             None if self.gives_up(world) => self.write_given_up(world, out)?,
-            Some(Act::Done(_)) | None => self.write_work(case, out)?,
-            Some(act) => {
-                self.write_act(act, world, out)?;
-                self.write_hold(world, out)?;
-            }
+            Some(Act::Done(_)) | None => self.write_work(world, case, out)?,
+            Some(act) => self.write_act(act, world, case, out)?,
         }
-        self.write_decided(world, case, out)
+        self.write_counted(world, case, out)?;
+        self.write_answer(world, out)
     }
 
     /// Whether the shard was given up by the step.
@@ -123,121 +206,70 @@ impl Before {
         }
     }
 
-    /// A step at a lock.
-    fn write_act(&self, act: Act, world: &World, out: &mut String) -> Written {
-        let shard = self.shard;
-        let before = self.word;
-        let word = world.word(shard);
+    /// A step at a lock, and whether the shard was had or given up by it.
+    fn write_act(&self, act: Act, world: &World, case: &Case<'_>, out: &mut String) -> Written {
+        let word = world.word(self.shard);
         match act {
-            Act::Load => write!(out, "looks at the word of shard {shard}: {word}"),
-            Act::Exchange(from, to) => self.write_exchange(from, to, word, out),
-            Act::Add(_) | Act::FetchAnd(_) => {
-                write!(
-                    out,
-                    "changes the word of shard {shard}: {before} becomes {word}"
-                )
-            }
-            Act::Spin => out.push_str("spins"),
-            Act::Enter(_) => write!(out, "enters the section of shard {shard}'s queues"),
-            Act::Section(act) => self.write_section(act, word, out),
-            Act::Sleep => {
-                write!(
-                    out,
-                    "is past its deadline, and goes on to leave the queues of shard {shard}"
-                )
-            }
-            Act::Done(_) => Ok(()),
+            Act::Exchange(from, to) => self.write_exchange(from, to, word, out)?,
+            _ => self.write_words(words_of_act(act), case, word, out)?,
         }
-    }
-
-    /// A step in the section of a lock's queues.
-    fn write_section(&self, act: SectionAct, word: u64, out: &mut String) -> Written {
-        let shard = self.shard;
-        let before = self.word;
-        match act {
-            SectionAct::Check => {
-                write!(out, "looks at the word of shard {shard} once more: {word}")
-            }
-            SectionAct::TakeFirst | SectionAct::TakeNext(_) => {
-                write!(
-                    out,
-                    "looks for a thread in the queue of shard {shard} to wake"
-                )
-            }
-            SectionAct::Append(_) => write!(out, "joins the queue of shard {shard}"),
-            SectionAct::Store { .. } => {
-                write!(
-                    out,
-                    "stores the word of shard {shard}: {before} becomes {word}"
-                )
-            }
-            SectionAct::Leave => write!(out, "leaves the section of shard {shard}'s queues"),
-            SectionAct::Wake => out.push_str("wakes a thread"),
-        }
+        let words = self.words_of_hold(world);
+        self.write_words(words, case, word, out)
     }
 
     /// A step of the call's own work.
-    fn write_work(&self, case: &Case<'_>, out: &mut String) -> Written {
-        let shard = self.shard;
-        let call = case.call_of(self.thread, self.call);
-        match self.kind {
-            0 => write!(out, "starts `{call}`"),
-            1 => self.write_look(case, out),
-            3 => write!(out, "makes room in shard {shard}"),
-            4 => out.push_str("adds the pair"),
-            5 | 8 => write!(out, "does `{call}` with the pair"),
-            6 | 7 => out.push_str("reads the pair"),
-            9 => out.push_str("adds the pair at its entry"),
-            10 => out.push_str("turns its guard into a shared one"),
-            12 => write!(out, "looks into shard {shard}, which it has"),
-            14 => write!(out, "looks into shard {shard}"),
-            15 => out.push_str("finds the next pair"),
-            16 => out.push_str("does with a pair what the walk does"),
-            17 | 19 => write!(out, "is to give shard {shard} up"),
-            18 => out.push_str("asks for the next shard"),
-            _ => write!(out, "ends `{call}`"),
+    fn write_work(&self, world: &World, case: &Case<'_>, out: &mut String) -> Written {
+        match key_at(case, self.thread, self.call) {
+            Some(key) if self.kind == 1 => self.write_look(key, out),
+            _ => {
+                let words = words_of_work(self.kind);
+                self.write_words(words, case, world.word(self.shard), out)
+            }
         }
     }
 
     /// The look for the call's key.
-    fn write_look(&self, case: &Case<'_>, out: &mut String) -> Written {
+    fn write_look(&self, key: u64, out: &mut String) -> Written {
         let shard = self.shard;
-        match (key_at(case, self.thread, self.call), self.present) {
-            (Some(key), Some(true)) => {
-                write!(out, "looks for key {key} in shard {shard}: present")
-            }
-            (Some(key), _) => write!(out, "looks for key {key} in shard {shard}: absent"),
-            (None, _) => write!(out, "looks into shard {shard}"),
+        let found = if self.present == Some(true) {
+            "present"
+        } else {
+            "absent"
+        };
+        write!(out, "looks for key {key} in shard {shard}: {found}")
+    }
+
+    /// How it is told that the shard was had or given up by the step.
+    fn words_of_hold(&self, world: &World) -> Words {
+        match (self.hold, world.hold(self.thread, self.shard)) {
+            (None, Some(Mode::Exclusive)) => Words::Shard(", and has", " alone"),
+            (None, Some(_)) => Words::Shard(", and shares", ""),
+            (Some(_), None) => Words::Shard(", and gives", " up"),
+            _ => Words::Plain(""),
         }
     }
 
-    /// Whether the shard was had or given up by the step.
-    fn write_hold(&self, world: &World, out: &mut String) -> Written {
-        let shard = self.shard;
-        match (self.hold, world.hold(self.thread, shard)) {
-            (None, Some(Mode::Exclusive)) => write!(out, ", and has shard {shard} alone"),
-            (None, Some(_)) => write!(out, ", and shares shard {shard}"),
-            (Some(_), None) => write!(out, ", and gives shard {shard} up"),
-            _ => Ok(()),
+    /// Whether the call was decided by the step.
+    fn write_counted(&self, world: &World, case: &Case<'_>, out: &mut String) -> Written {
+        let Some(block) = world.blocks().get(self.blocks) else {
+            return Ok(());
+        };
+        let call = case.call_of(block.thread, block.call);
+        if matches!(asked_at(case, block.thread, block.call), Some(Ask::Walk(_))) {
+            let shard = self.shard;
+            write!(
+                out,
+                ". From here on `{call}` counts as done in shard {shard}"
+            )
+        } else {
+            write!(out, ". From here on its `{call}` counts as done")
         }
     }
 
-    /// Whether the call was decided or answered by the step.
-    fn write_decided(&self, world: &World, case: &Case<'_>, out: &mut String) -> Written {
-        if let Some(block) = world.blocks().get(self.blocks) {
-            let call = case.call_of(block.thread, block.call);
-            if matches!(asked_at(case, block.thread, block.call), Some(Ask::Walk(_))) {
-                let shard = self.shard;
-                write!(
-                    out,
-                    ". From here on `{call}` counts as done in shard {shard}"
-                )?;
-            } else {
-                write!(out, ". From here on its `{call}` counts as done")?;
-            }
-        }
+    /// Whether the call was answered by the step.
+    fn write_answer(&self, world: &World, out: &mut String) -> Written {
         match world.replies().get(self.replies) {
-            Some(reply) => write!(out, ": {}", mapworld_text::Shown(&reply.answer)),
+            Some(reply) => write!(out, ": {}", Shown(&reply.answer)),
             None => Ok(()),
         }
     }

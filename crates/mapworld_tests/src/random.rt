@@ -130,6 +130,40 @@ fn drained<S: BuildHasher>(
     broken(made, world, KEYS, moment)
 }
 
+/// The threads that made these steps, and their deadlines.
+fn schedule_of(
+    alloc: Global,
+    steps: &[Step],
+) -> Result<(Vec<usize>, Vec<(usize, u64)>), AllocError> {
+    let mut schedule = Vec::new(alloc);
+    let mut deadlines = Vec::new(alloc);
+    for (i, step) in steps.iter().enumerate() {
+        schedule.push(step.thread)?;
+        if step.deadline {
+            deadlines.push((step.thread, (i as u64).saturating_add(1)))?;
+        }
+    }
+    Ok((schedule, deadlines))
+}
+
+/// Runs a world to a random moment, and gives what it shows then, or the rule that is broken.
+fn moment_of<S: BuildHasher>(
+    alloc: Global,
+    world: &mut World<S>,
+    random: &mut Random,
+    run: Run,
+) -> Result<Result<Halfway, &'static str>, AllocError> {
+    let mut steps = Vec::new(alloc);
+    if let Some(rule) = run_some(world, random, run, &mut steps)? {
+        return Ok(Err(rule));
+    }
+    let (schedule, deadlines) = schedule_of(alloc, &steps)?;
+    match shown_now(alloc, world, schedule, deadlines)? {
+        Some(moment) => Ok(Ok(moment)),
+        None => Ok(Err("a block shows its end exactly where its call is answered")),
+    }
+}
+
 /// Makes a world, runs it to a random moment and drains it; and gives the rule that is broken, if one is.
 fn broken_on<S: BuildHasher + Drop>(
     made: Made<'_, Change>,
@@ -138,26 +172,12 @@ fn broken_on<S: BuildHasher + Drop>(
     run: Run,
     tally: &mut Tally,
 ) -> Result<Broken, AllocError> {
-    let Some(mut world) = world_of(made.alloc, made.shards, hasher, made.pairs, made.programs)
-    else {
-        return Ok(Some("a world is made"));
-    };
-    let mut steps = Vec::new(made.alloc);
-    let by_steps = run_some(&mut world, random, run, &mut steps)?;
-    if by_steps.is_some() {
-        return Ok(by_steps);
-    }
-    let mut schedule = Vec::new(made.alloc);
-    let mut deadlines = Vec::new(made.alloc);
-    for (i, step) in steps.iter().enumerate() {
-        schedule.push(step.thread)?;
-        if step.deadline {
-            deadlines.push((step.thread, (i as u64).saturating_add(1)))?;
-        }
-    }
-    match shown_now(made.alloc, &world, schedule, deadlines)? {
-        Some(moment) => drained(made, &mut world, &moment, tally),
-        None => Ok(Some("a block shows its end exactly where its call is answered")),
+    match world_of(made.alloc, made.shards, hasher, made.pairs, made.programs) {
+        Some(mut world) => match moment_of(made.alloc, &mut world, random, run)? {
+            Ok(moment) => drained(made, &mut world, &moment, tally),
+            Err(rule) => Ok(Some(rule)),
+        },
+        None => Ok(Some("a world is made")),
     }
 }
 

@@ -59,6 +59,20 @@ pub fn world_of<S: BuildHasher + Drop, A: Allocator + Copy + Drop>(
     MapWorld::new(alloc, shards, hasher, pairs, asked).ok()
 }
 
+/// A world of the programs of a text, of so many shards, that begins with these pairs.
+pub fn world_by(
+    alloc: Global,
+    shards: usize,
+    pairs: &[(u64, u64)],
+    text: &str,
+) -> Result<World, Fail> {
+    let programs = programs_of(alloc, text)?;
+    match world_of(alloc, shards, SpreadState, pairs, &programs) {
+        Some(world) => Ok(world),
+        None => Err(Fail::new("no world")),
+    }
+}
+
 /// Makes as many steps of the thread, and says whether all of them were done.
 pub fn step_times<
     K: Eq + Hash + Drop,
