@@ -49,7 +49,10 @@ fn follow<'a>(rt: &HostRuntime, words: &'a [String]) -> io::Result<ExitCode> {
     match command_line(rt.alloc()) {
         Ok(command) => match command.try_get_matches_from(words) {
             Ok(matches) => serve(rt, &matches),
-            Err(error) => tell_error(rt, &error),
+            Err(error) => {
+                error.print(rt)?;
+                Ok(ExitCode::from(error.exit_code() as u8))
+            }
         },
         Err(refused) => Err(io::Error::from(refused)),
     }
@@ -65,12 +68,6 @@ fn serve(rt: &HostRuntime, matches: &ArgMatches<'_>) -> io::Result<ExitCode> {
     } else {
         Ok(ExitCode::FAILURE)
     }
-}
-
-/// Tells why a command line asks for nothing that can be done, or what it asked to be told.
-fn tell_error(rt: &HostRuntime, error: &clap::Error) -> io::Result<ExitCode> {
-    error.print(rt)?;
-    Ok(ExitCode::from(error.exit_code() as u8))
 }
 
 fn main(rt: HostRuntime) -> ExitCode {
