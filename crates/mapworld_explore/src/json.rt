@@ -91,8 +91,7 @@ fn put_outcome(
     let led = outcome_behind(alloc, case, &schedule)?;
     put_led(case, &led, outcome.ends, object)?;
     let text = schedule_text(alloc, case, &schedule)?;
-    object.put("schedule", Value::from(text))?;
-    Ok(())
+    Ok(object.put("schedule", Value::from(text))?)
 }
 
 /// An outcome.
@@ -136,14 +135,13 @@ fn put_found(
     search: &Search<'_, '_>,
     object: &mut Object,
 ) -> Result<(), ExploreFault> {
-    let alloc = object.alloc;
     object.put_text("file", file)?;
     object.put_text("case", case.name)?;
     object.put_number("states", search.states())?;
     object.put_number("ends", search.ends)?;
     object.put("whole", Value::from(search.limit.is_none()))?;
-    object.put("sleeps", waits_of(alloc, search)?)?;
-    object.put("outcomes", outcomes_of(alloc, case, search)?)?;
+    object.put("sleeps", waits_of(object.alloc, search)?)?;
+    object.put("outcomes", outcomes_of(object.alloc, case, search)?)?;
     Ok(())
 }
 
