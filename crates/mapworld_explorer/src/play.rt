@@ -1,5 +1,6 @@
 //! How a case is played: in each way that it may be, line by line.
 
+use crate::checked::is_text;
 use crate::search::plain;
 use crate::seen::write_seen;
 use crate::traced::Traced;
@@ -42,18 +43,6 @@ pub struct Failure {
     pub found: String,
 }
 
-/// Whether the text is these words.
-fn is_text(found: &str, want: &[&str]) -> bool {
-    let mut count: usize = 0;
-    for word in found.split_whitespace() {
-        if want.get(count).copied() != Some(word) {
-            return false;
-        }
-        count = count.saturating_add(1);
-    }
-    count == want.len()
-}
-
 /// Runs one step of each of these threads, and writes how that is answered.
 fn write_run(traced: &mut Traced, threads: &[usize], out: &mut String) -> Result<(), AllocError> {
     let mut steps = Vec::with_capacity(traced.alloc, threads.len())?;
@@ -84,7 +73,7 @@ fn step_until(
     for _ in 0..50 {
         let mut found = String::new(traced.alloc);
         write_seen(traced, case, view, &mut found)?;
-        if is_text(found.as_str(), want) {
+        if is_text(found.as_str(), want, false) {
             return Ok(true);
         }
         let _ = traced.step(thread, false)?;
@@ -101,19 +90,8 @@ fn ends(traced: &mut Traced, case: &Case<'_>, ending: Ending) -> Result<bool, Al
     Ok(is_done && traced.is_at_rest(calls_of(case)))
 }
 
-/// Whether that is seen; it is written, too. A drain's words aren't seen one by one.
-fn is_seen(
-    traced: &Traced,
-    case: &Case<'_>,
-    view: View,
-    line: &Line<'_>,
-    found: &mut String,
-) -> Result<bool, AllocError> {
-    write_seen(traced, case, view, found)?;
-    Ok(is_text(found.as_str(), &line.want))
-}
-
-/// Whether a line is carried out, or what it says is seen. What is found instead is written.
+/// Whether a line is carried out, or what it says is seen. What is found instead is written. A drain's words aren't seen
+/// one by one.
 fn holds(
     traced: &mut Traced,
     case: &Case<'_>,
@@ -132,10 +110,13 @@ fn holds(
         Order::Drain => traced.drains(),
         Order::Run => {
             write_run(traced, &line.threads, found)?;
-            Ok(is_text(found.as_str(), &line.want))
+            Ok(is_text(found.as_str(), &line.want, false))
         }
         Order::Expect(View::Words(_)) if ending == Ending::Drain => Ok(true),
-        Order::Expect(view) => is_seen(traced, case, view, line, found),
+        Order::Expect(view) => {
+            write_seen(traced, case, view, found)?;
+            Ok(is_text(found.as_str(), &line.want, false))
+        }
         Order::Through(thread) => traced.step_through(thread),
         Order::Deadline(thread) => traced.deadline(thread),
         Order::Claim(_) => Ok(true),
@@ -159,6 +140,11 @@ pub(crate) fn failure_on(
     Ok(None)
 }
 
+/// Whether a line says that a world isn't made, and why.
+fn tells(line: &Line<'_>, fault: WorldNewFault) -> bool {
+    matches!(line.order, Order::Expect(View::World)) && is_text(fault.name(), &line.want, false)
+}
+
 /// What is wrong with a world that isn't made: its lines may only say why.
 fn failure_without(
     alloc: Global,
@@ -166,22 +152,13 @@ fn failure_without(
     way: Way,
     fault: WorldNewFault,
 ) -> Result<Option<Failure>, AllocError> {
-    let mut is_told = false;
-    for (line, told) in case.lines.iter().enumerate() {
-        is_told = matches!(told.order, Order::Expect(View::World))
-            && is_text(fault.name(), &told.want);
-        if !is_told {
-            let found = String::from_str(alloc, fault.name())?;
-            return Ok(Some(Failure { line, way, found }));
-        }
+    let other = case.lines.iter().position(|line| !tells(line, fault));
+    if other.is_none() && !case.lines.is_empty() {
+        return Ok(None);
     }
+    let line = other.unwrap_or(0);
     let found = String::from_str(alloc, fault.name())?;
-    let line = case.lines.len();
-    Ok(if is_told {
-        None
-    } else {
-        Some(Failure { line, way, found })
-    })
+    Ok(Some(Failure { line, way, found }))
 }
 
 /// Plays a case in one way.
@@ -208,23 +185,6 @@ pub(crate) fn bits_of(threads: &[usize], choice: u64) -> u64 {
     bits
 }
 
-/// Plays a case by rounds, and again by drains where it has an end, and gives the first failure.
-fn failure_at_ends(
-    alloc: Global,
-    case: &Case<'_>,
-    fair: u64,
-    is_ended: bool,
-) -> Result<Option<Failure>, AllocError> {
-    let ending = Ending::Round;
-    match failure_by(alloc, case, Way { ending, fair })? {
-        None if is_ended => {
-            let ending = Ending::Drain;
-            failure_by(alloc, case, Way { ending, fair })
-        }
-        failure => Ok(failure),
-    }
-}
-
 /// Plays a case in each way that it may be, and gives the first that fails.
 pub fn failure_of(alloc: Global, case: &Case<'_>) -> Result<Option<Failure>, AllocError> {
     let always = bits_of(&case.fair, u64::MAX);
@@ -237,9 +197,13 @@ pub fn failure_of(alloc: Global, case: &Case<'_>) -> Result<Option<Failure>, All
         .unwrap_or(1);
     for choice in 0..choices {
         let fair = always | bits_of(&case.either, choice);
-        let failure = failure_at_ends(alloc, case, fair, is_ended)?;
-        if failure.is_some() {
-            return Ok(failure);
+        for ending in [Ending::Round, Ending::Drain] {
+            if ending == Ending::Round || is_ended {
+                let failure = failure_by(alloc, case, Way { ending, fair })?;
+                if failure.is_some() {
+                    return Ok(failure);
+                }
+            }
         }
     }
     Ok(None)

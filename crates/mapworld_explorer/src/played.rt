@@ -17,17 +17,6 @@ pub struct Played {
     pub failure: Option<Failure>,
 }
 
-impl Traced {
-    fn into_played(self, failure: Option<Failure>) -> Played {
-        let Traced { world, made, .. } = self;
-        Played {
-            world,
-            schedule: made,
-            failure,
-        }
-    }
-}
-
 /// Whether a case tells a schedule.
 fn has_schedule(case: &Case<'_>) -> bool {
     case.lines.iter().any(|line| !matches!(line.order, Order::Expect(_) | Order::Claim(_)))
@@ -54,5 +43,10 @@ pub fn play_once(alloc: Global, case: &Case<'_>) -> Result<Played, ExploreFault>
     let world = world_behind(alloc, case, &[])?;
     let mut traced = Traced::new(alloc, world, case.shards, way.fair);
     let failure = failure_in(&mut traced, case, way)?;
-    Ok(traced.into_played(failure))
+    let Traced { world, made, .. } = traced;
+    Ok(Played {
+        world,
+        schedule: made,
+        failure,
+    })
 }

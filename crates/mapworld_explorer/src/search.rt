@@ -56,13 +56,18 @@ pub struct Search<'c, 'a> {
     pub limit: Option<Limit>,
 }
 
-/// A step of a thread's own that isn't fair.
-pub(crate) fn plain(thread: usize) -> Step {
+/// A step of a thread, or its deadline.
+pub(crate) fn step_by(thread: usize, fair: bool, deadline: bool) -> Step {
     Step {
         thread,
-        fair: false,
-        deadline: false,
+        fair,
+        deadline,
     }
+}
+
+/// A step of a thread's own that isn't fair.
+pub(crate) fn plain(thread: usize) -> Step {
+    step_by(thread, false, false)
 }
 
 impl<'c, 'a> Search<'c, 'a> {
@@ -266,18 +271,10 @@ impl<'c, 'a> Search<'c, 'a> {
             if world.can_move(thread) {
                 steps.push(plain(thread))?;
                 if may_be_fair(world, thread) {
-                    steps.push(Step {
-                        thread,
-                        fair: true,
-                        deadline: false,
-                    })?;
+                    steps.push(step_by(thread, true, false))?;
                 }
             } else if world.locks().may_expire(thread) {
-                steps.push(Step {
-                    thread,
-                    fair: false,
-                    deadline: true,
-                })?;
+                steps.push(step_by(thread, false, true))?;
             }
         }
         Ok(steps)

@@ -1,25 +1,20 @@
 //! What is seen of a world, as it is written in a text.
 
+use crate::outcome::Written;
 use crate::traced::Traced;
 use crate::worlds::World;
 use mapworld::{Answer, Status};
 use mapworld_text::{Case, Shown, View};
 use std::alloc::AllocError;
-
-/// What is written.
-type Written = Result<(), AllocError>;
+use std::fmt;
 
 /// A word for yes and no.
 fn yes_or_no(is_so: bool) -> &'static str {
     if is_so { "yes" } else { "no" }
 }
 
-fn write_count(count: usize, out: &mut String) -> Written {
-    write!(out, "{count}")
-}
-
-fn write_number(number: u64, out: &mut String) -> Written {
-    write!(out, "{number}")
+fn write_it(shown: &impl fmt::Display, out: &mut String) -> Written {
+    write!(out, "{shown}")
 }
 
 fn write_reply(world: &World, thread: usize, call: usize, out: &mut String) -> Written {
@@ -28,7 +23,7 @@ fn write_reply(world: &World, thread: usize, call: usize, out: &mut String) -> W
         .iter()
         .find(|reply| reply.thread == thread && reply.call == call);
     match found {
-        Some(reply) => write!(out, "{}", Shown(&reply.answer)),
+        Some(reply) => write_it(&Shown(&reply.answer), out),
         None => out.push_str("unanswered"),
     }
 }
@@ -65,7 +60,7 @@ fn write_items(world: &World, thread: usize, call: usize, out: &mut String) -> W
             && reply.call == call
             && let Answer::Reads(reads) = &reply.answer
         {
-            return write!(out, "{}", reads.len());
+            return write_it(&reads.len(), out);
         }
     }
     out.push_str("none")
@@ -84,7 +79,7 @@ fn having(world: &World, value: u64) -> usize {
 
 fn write_pair(world: &World, key: u64, out: &mut String) -> Written {
     match world.pair(&key) {
-        Some(pair) if *pair.0 == key => write!(out, "{}", pair.1),
+        Some(pair) if *pair.0 == key => write_it(pair.1, out),
         Some(_) => out.push_str("the pair of another key"),
         None => out.push_str("none"),
     }
@@ -166,7 +161,7 @@ fn status_of(world: &World, thread: usize) -> &'static str {
 
 fn write_started(world: &World, thread: usize, out: &mut String) -> Written {
     match world.started(thread) {
-        Some(step) => write!(out, "{step}"),
+        Some(step) => write_it(&step, out),
         None => out.push_str("no"),
     }
 }
@@ -182,21 +177,21 @@ pub(crate) fn write_seen(
     match view {
         View::World => out.push_str("made"),
         View::Reply(thread, call) => write_reply(world, thread, call, out),
-        View::Replies => write_count(world.replies().len(), out),
-        View::Blocks(thread, call) => write_count(blocks_of(world, thread, call), out),
+        View::Replies => write_it(&world.replies().len(), out),
+        View::Blocks(thread, call) => write_it(&blocks_of(world, thread, call), out),
         View::Block(thread, call, visit) => write_block(world, (thread, call, visit), out),
         View::Items(thread, call) => write_items(world, thread, call, out),
-        View::Having(value) => write_count(having(world, value), out),
+        View::Having(value) => write_it(&having(world, value), out),
         View::Pair(key) => write_pair(world, key, out),
         View::Pairs => write_pairs(traced, out),
-        View::Shard(key) => write_count(world.shard_of(&key), out),
-        View::Word(shard) => write_number(world.word(shard), out),
+        View::Shard(key) => write_it(&world.shard_of(&key), out),
+        View::Word(shard) => write_it(&world.word(shard), out),
         View::Words(shard) => write_words(traced, shard, out),
         View::Queue(key) => write_queue(world, case, key, out),
         View::Status(thread) => out.push_str(status_of(world, thread)),
         View::Moves(thread) => out.push_str(yes_or_no(world.can_move(thread))),
         View::Started(thread) => write_started(world, thread, out),
-        View::Steps => write_number(world.steps(), out),
-        View::Bound => write_number(world.bound(), out),
+        View::Steps => write_it(&world.steps(), out),
+        View::Bound => write_it(&world.bound(), out),
     }
 }

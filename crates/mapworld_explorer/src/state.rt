@@ -1,5 +1,6 @@
 //! What states of a world are told apart by: all that the further steps depend on, and what is answered.
 
+use crate::outcome::Written;
 use crate::reading::write_answer;
 use crate::standing::{Stand, kind_of};
 use crate::worlds::World;
@@ -9,9 +10,6 @@ use parking_lot_machine::{Core, Hold, LateRwPhase, RwSleeper};
 use parking_lot_protocol_rw::UpgradePhase;
 use std::alloc::{AllocError, Global};
 use std::fmt;
-
-/// What is written.
-type Written = Result<(), AllocError>;
 
 /// A number for the kind of a guard.
 fn guard_kind(stand: &Stand) -> u8 {
@@ -144,11 +142,11 @@ fn write_sleep(world: &World, thread: usize, out: &mut String) -> Written {
 
 /// What tells the thread's sleep from others.
 fn mark_of(world: &World, thread: usize) -> Option<u64> {
-    match world.locks().machine().lot().place(thread) {
-        Some(Place::Waiting(_, sleep)) => Some(sleep.mark),
-        Some(Place::Held(_, sleep)) => Some(sleep.mark),
-        Some(Place::Taken(_, _, sleep, _)) => Some(sleep.mark),
-        Some(Place::Running) | None => None,
+    match world.locks().machine().lot().place(thread)? {
+        Place::Waiting(_, sleep) | Place::Held(_, sleep) | Place::Taken(_, _, sleep, _) => {
+            Some(sleep.mark)
+        }
+        Place::Running => None,
     }
 }
 
@@ -162,7 +160,7 @@ fn write_wakes(world: &World, out: &mut String) -> Written {
 }
 
 /// The words and queues of the locks.
-fn write_locks(world: &World, out: &mut String) -> Result<(), AllocError> {
+fn write_locks(world: &World, out: &mut String) -> Written {
     for shard in 0..world.shards() {
         write!(out, "\n{}:", world.word(shard))?;
         let key = shard.saturating_mul(2);
@@ -172,7 +170,7 @@ fn write_locks(world: &World, out: &mut String) -> Result<(), AllocError> {
     Ok(())
 }
 
-fn write_queue(world: &World, key: usize, out: &mut String) -> Result<(), AllocError> {
+fn write_queue(world: &World, key: usize, out: &mut String) -> Written {
     let Ok(threads) = world.queue(key) else {
         return Err(AllocError);
     };
@@ -206,21 +204,16 @@ fn write_answers(alloc: Global, world: &World, thread: usize, out: &mut String) 
     Ok(())
 }
 
-/// Writes where a thread stands, and what it was answered so far.
-fn write_thread(alloc: Global, world: &World, thread: usize, out: &mut String) -> Written {
-    if let Some(stand) = world.place(thread) {
-        write_stand(alloc, stand, out)?;
-    }
-    write_call(world, thread, out)?;
-    write_holds(world, thread, out)?;
-    write_sleep(world, thread, out)?;
-    write_answers(alloc, world, thread, out)
-}
-
 /// Writes a state: two of which the texts are the same go on alike, step numbers aside, and were answered alike.
 fn write_state(alloc: Global, world: &World, out: &mut String) -> Written {
     for thread in 0..world.threads() {
-        write_thread(alloc, world, thread, out)?;
+        if let Some(stand) = world.place(thread) {
+            write_stand(alloc, stand, out)?;
+        }
+        write_call(world, thread, out)?;
+        write_holds(world, thread, out)?;
+        write_sleep(world, thread, out)?;
+        write_answers(alloc, world, thread, out)?;
     }
     write_locks(world, out)?;
     write_tables(world, out)?;

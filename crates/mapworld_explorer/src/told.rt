@@ -1,5 +1,6 @@
 //! Steps in words.
 
+use crate::outcome::Written;
 use crate::standing::{act_of, kind_of};
 use crate::worlds::World;
 use lock_api_desk::Mode;
@@ -7,10 +8,6 @@ use mapworld::Step;
 use mapworld_calls::Ask;
 use mapworld_text::{Asked, Case, Shown};
 use parking_lot_machine::{Act, SectionAct};
-use std::alloc::AllocError;
-
-/// What is written.
-type Written = Result<(), AllocError>;
 
 /// How a step is told.
 #[derive(Clone, Copy)]
@@ -27,7 +24,21 @@ enum Words {
     Call(&'static str, &'static str),
 }
 
-/// How a step at a lock is told, where that doesn't take more than the words of the lock.
+/// How a step in the section of a lock's queues is told.
+fn words_of_section(act: SectionAct) -> Words {
+    match act {
+        SectionAct::Check => Words::Look(" once more"),
+        SectionAct::TakeFirst | SectionAct::TakeNext(_) => {
+            Words::Shard("looks for a thread in the queue of", " to wake")
+        }
+        SectionAct::Append(_) => Words::Shard("joins the queue of", ""),
+        SectionAct::Store { .. } => Words::Change("stores"),
+        SectionAct::Leave => Words::Shard("leaves the section of", "'s queues"),
+        SectionAct::Wake => Words::Plain("wakes a thread"),
+    }
+}
+
+/// How a step at a lock is told, where that takes no more than the word of the lock.
 fn words_of_act(act: Act) -> Words {
     match act {
         Act::Load => Words::Look(""),
@@ -40,20 +51,6 @@ fn words_of_act(act: Act) -> Words {
             "",
         ),
         Act::Exchange(..) | Act::Done(_) => Words::Plain(""),
-    }
-}
-
-/// How a step in the section of a lock's queues is told.
-fn words_of_section(act: SectionAct) -> Words {
-    match act {
-        SectionAct::Check => Words::Look(" once more"),
-        SectionAct::TakeFirst | SectionAct::TakeNext(_) => {
-            Words::Shard("looks for a thread in the queue of", " to wake")
-        }
-        SectionAct::Append(_) => Words::Shard("joins the queue of", ""),
-        SectionAct::Store { .. } => Words::Change("stores"),
-        SectionAct::Leave => Words::Shard("leaves the section of", "'s queues"),
-        SectionAct::Wake => Words::Plain("wakes a thread"),
     }
 }
 
@@ -159,11 +156,8 @@ impl Before {
         out.push_str(case.name_of(self.thread))?;
         out.push_str(" ")?;
         if self.deadline {
-            let shard = self.shard;
-            return write!(
-                out,
-                "has waited long enough for shard {shard}: its deadline has come"
-            );
+            let words = Words::Shard("has waited long enough for", ": its deadline has come");
+            return self.write_words(words, case, self.word, out);
         }
         match self.act {
             None if self.gives_up(world) => self.write_given_up(world, out)?,
@@ -191,26 +185,28 @@ impl Before {
     }
 
     /// An exchange of a lock's word, which is now that.
-    fn write_exchange(&self, from: u64, to: u64, word: u64, out: &mut String) -> Written {
+    fn write_exchange(
+        &self,
+        (from, to): (u64, u64),
+        case: &Case<'_>,
+        word: u64,
+        out: &mut String,
+    ) -> Written {
         let shard = self.shard;
         if self.word == from {
-            write!(
-                out,
-                "exchanges the word of shard {shard}: {from} becomes {to}"
-            )
-        } else {
-            write!(
-                out,
-                "fails to exchange the word of shard {shard}: it is {word}, not {from}"
-            )
+            return self.write_words(Words::Change("exchanges"), case, to, out);
         }
+        write!(
+            out,
+            "fails to exchange the word of shard {shard}: it is {word}, not {from}"
+        )
     }
 
     /// A step at a lock, and whether the shard was had or given up by it.
     fn write_act(&self, act: Act, world: &World, case: &Case<'_>, out: &mut String) -> Written {
         let word = world.word(self.shard);
         match act {
-            Act::Exchange(from, to) => self.write_exchange(from, to, word, out)?,
+            Act::Exchange(from, to) => self.write_exchange((from, to), case, word, out)?,
             _ => self.write_words(words_of_act(act), case, word, out)?,
         }
         let words = self.words_of_hold(world);

@@ -1,5 +1,6 @@
 //! A world that is stepped, and the words that its shards have had.
 
+use crate::search::step_by;
 use crate::worlds::World;
 use mapworld::{RunFault, Step};
 use std::alloc::{AllocError, Global};
@@ -65,11 +66,7 @@ impl Traced {
         fair: bool,
     ) -> Result<Option<RunFault>, AllocError> {
         let fair = fair || self.is_fair(thread);
-        self.make(Step {
-            thread,
-            fair,
-            deadline: false,
-        })
+        self.make(step_by(thread, fair, false))
     }
 
     /// Makes a step, and answers why it isn't done, if it isn't.
@@ -84,11 +81,7 @@ impl Traced {
 
     /// A thread's deadline comes; says whether it could.
     pub(crate) fn deadline(&mut self, thread: usize) -> Result<bool, AllocError> {
-        let fault = self.make(Step {
-            thread,
-            fair: false,
-            deadline: true,
-        })?;
+        let fault = self.make(step_by(thread, false, true))?;
         Ok(fault.is_none())
     }
 
