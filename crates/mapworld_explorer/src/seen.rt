@@ -159,13 +159,6 @@ fn status_of(world: &World, thread: usize) -> &'static str {
     }
 }
 
-fn write_started(world: &World, thread: usize, out: &mut String) -> Written {
-    match world.started(thread) {
-        Some(step) => write_it(&step, out),
-        None => out.push_str("no"),
-    }
-}
-
 /// Writes what is seen.
 pub(crate) fn write_seen(
     traced: &Traced,
@@ -190,7 +183,10 @@ pub(crate) fn write_seen(
         View::Queue(key) => write_queue(world, case, key, out),
         View::Status(thread) => out.push_str(status_of(world, thread)),
         View::Moves(thread) => out.push_str(yes_or_no(world.can_move(thread))),
-        View::Started(thread) => write_started(world, thread, out),
+        View::Started(thread) => match world.started(thread) {
+            Some(step) => write_it(&step, out),
+            None => out.push_str("no"),
+        },
         View::Steps => write_it(&world.steps(), out),
         View::Bound => write_it(&world.bound(), out),
     }
