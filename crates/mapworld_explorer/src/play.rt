@@ -90,8 +90,7 @@ fn ends(traced: &mut Traced, case: &Case<'_>, ending: Ending) -> Result<bool, Al
     Ok(is_done && traced.is_at_rest(calls_of(case)))
 }
 
-/// Whether a line is carried out, or what it says is seen. What is found instead is written. A drain's words aren't seen
-/// one by one.
+/// Whether a line is carried out or seen; what is found instead is written. A drain's words aren't seen one by one.
 fn holds(
     traced: &mut Traced,
     case: &Case<'_>,
