@@ -1,7 +1,7 @@
 //! Every schedule of two programs, by the states to which they lead; each of them is drained.
 
 use crate::rules::{broken_by_threads, refuses};
-use crate::worlds::{World, broken, shown_now, world_of};
+use crate::worlds::{World, broken, drain, made, shown_now, world_of};
 use mapworld::Step;
 use mapworld_explorer::{Ahead, ahead_of, may_be_fair};
 use mapworld_oracle::judge::Halfway;
@@ -153,10 +153,10 @@ impl<'r, 'p, R: AllocGlobal + Abort> Explorer<'r, 'p, R> {
     /// Drains a world, and tells whether that was within its bound and left nothing to do.
     fn is_drained(&mut self, world: &mut World) -> bool {
         let bound = world.bound();
-        let steps = world.drain();
+        let steps = drain(world);
         let share = steps.saturating_mul(1000).checked_div(bound).unwrap_or(0);
         self.found.share = self.found.share.max(share);
-        steps <= bound && world.drain() == 0
+        steps <= bound && drain(world) == 0
     }
 
     /// Drains a world behind a schedule, and looks at what it showed before and shows then.
@@ -229,7 +229,7 @@ impl<'r, 'p, R: AllocGlobal + Abort> Explorer<'r, 'p, R> {
         step: Step,
         longer: &mut Vec<Vec<Step>>,
     ) -> Result<(), Fail> {
-        world.run(&[step])?;
+        made(world, step)?;
         let mut whole = Vec::from_slice(self.rt.alloc(), schedule)?;
         whole.push(step)?;
         self.look_at(world, whole, longer)

@@ -2,7 +2,7 @@
 //! hold these and give them up.
 
 use crate::rules::{broken_by_threads, open_sections, refuses};
-use crate::worlds::World;
+use crate::worlds::{World, drain, made};
 use mapworld::Step;
 use mapworld_explorer::{Ahead, ahead_of, world_behind};
 use mapworld_text::{Case, read};
@@ -85,7 +85,7 @@ impl<'r, 'c, 'a, R: AllocGlobal + Abort> Beside<'r, 'c, 'a, R> {
                 if stands_as_wanted(&world, thread) {
                     break;
                 }
-                world.run(&[plain(thread)])?;
+                made(&mut world, plain(thread))?;
                 schedule.push(plain(thread))?;
             }
         }
@@ -125,7 +125,7 @@ impl<'r, 'c, 'a, R: AllocGlobal + Abort> Beside<'r, 'c, 'a, R> {
     ) -> Result<(), Fail> {
         let mut world = world_behind(self.rt.alloc(), self.case, schedule)?;
         if world.can_move(thread) {
-            world.run(&[plain(thread)])?;
+            made(&mut world, plain(thread))?;
             let mut whole = Vec::from_slice(self.rt.alloc(), schedule)?;
             whole.push(plain(thread))?;
             self.look_at(&mut world, whole, longer)?;
@@ -176,7 +176,7 @@ impl<'r, 'c, 'a, R: AllocGlobal + Abort> Beside<'r, 'c, 'a, R> {
         let is_kept = refuses(self.rt.alloc(), world, ahead)?;
         assert!(self.rt; is_kept, "a refused step changes nothing, by {schedule:?}");
         let bound = world.bound();
-        let is_drained = world.drain() <= bound && is_at_rest(world);
+        let is_drained = drain(world) <= bound && is_at_rest(world);
         assert!(self.rt; is_drained, "by {schedule:?}");
         Ok(())
     }

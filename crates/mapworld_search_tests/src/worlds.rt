@@ -1,6 +1,6 @@
 //! Worlds of two threads and two shards, and what they show beside the plain map of `mapworld_oracle`.
 
-use mapworld::{MapWorld, SpreadState};
+use mapworld::{MapWorld, RunFault, SpreadState, Step};
 use mapworld_oracle::judge::{Halfway, broken_at_end, broken_halfway, shows_ends};
 use mapworld_oracle::replay::{Broken, Made, Seen};
 use mapworld_oracle::said::replies_of;
@@ -41,6 +41,17 @@ pub fn world_of(
     let first = Vec::from_slice(alloc, pairs)?;
     let asked = programs_again(alloc, programs)?;
     Ok(MapWorld::new(alloc, 2, SpreadState, first, asked)?)
+}
+
+/// Makes a step, or says why it can't be made. Tests step a world by this alone, so that what `run` promises is looked at
+/// once.
+pub fn made(world: &mut World, step: Step) -> Result<(), RunFault> {
+    world.run(&[step])
+}
+
+/// Drains a world, by so many steps.
+pub fn drain(world: &mut World) -> u64 {
+    world.drain()
 }
 
 /// The contents as pairs of numbers.

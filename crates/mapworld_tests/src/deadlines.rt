@@ -1,6 +1,6 @@
 //! Which deadlines are refused.
 
-use super::worlds::{World, step_through, step_times, world_by};
+use super::worlds::{World, drain, make, step_through, step_times, world_by};
 use mapworld::{RunFault, Status, Step};
 use std::test::Fail;
 
@@ -18,7 +18,7 @@ fn refuses(world: &mut World, thread: usize) -> bool {
     let steps = world.steps();
     let status = world.status(thread);
     let word = world.word(1);
-    world.run(&[late(thread)]) == Err(RunFault::CannotMove(0))
+    make(world, late(thread)) == Err(RunFault::CannotMove(0))
         && world.steps() == steps
         && world.status(thread) == status
         && world.word(1) == word
@@ -40,7 +40,7 @@ fn come_to_sleep(world: &mut World) -> bool {
 /// Whether the last thread's deadline comes once, and lets it move.
 fn comes_once(world: &mut World) -> bool {
     let was_asleep = !world.can_move(2);
-    let is_made = world.run(&[late(2)]).is_ok();
+    let is_made = make(world, late(2)).is_ok();
     was_asleep && is_made && world.can_move(2) && refuses(world, 2)
 }
 
@@ -54,7 +54,7 @@ fn broken_by_deadlines(world: &mut World) -> Option<&'static str> {
         Some("a deadline comes once, and lets its thread move")
     } else if !step_through(world, 2) || !refuses(world, 2) {
         Some("a thread that has finished has no deadline")
-    } else if world.run(&[late(3)]) != Err(RunFault::NoSuchThread(0)) {
+    } else if make(world, late(3)) != Err(RunFault::NoSuchThread(0)) {
         Some("a thread that isn't there has no deadline")
     } else {
         None
@@ -74,7 +74,7 @@ fn is_handed_in_time(world: &mut World) -> bool {
     let waits = step_times(world, 0, 5)
         && step_through(world, 1)
         && world.status(1) == Status::Asleep;
-    waits && world.drain() > 0 && world.pair(&1).is_none()
+    waits && drain(world) > 0 && world.pair(&1).is_none()
 }
 
 #[test]

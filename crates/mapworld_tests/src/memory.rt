@@ -3,7 +3,7 @@
 
 use super::judged::{at_first, broken};
 use super::worlds::{
-    World, are_finished, programs_of, step_through, step_times, world_by, world_of,
+    World, are_finished, drain, programs_of, step_through, step_times, world_by, world_of,
 };
 use dashmap_table::SpreadState;
 use linked_list_allocator::LocalHeap;
@@ -167,12 +167,12 @@ fn run_without(
     let done = match when {
         When::Step(_) => step_next(world, last),
         When::Drain(_) => {
-            let _ = world.drain();
+            let _ = drain(world);
             last.is_some()
         }
     };
     drop(pieces);
-    let _ = world.drain();
+    let _ = drain(world);
     Ok(done)
 }
 

@@ -3,7 +3,7 @@
 
 use super::judged::{broken, shown_now};
 use super::programs::{KEYS, KINDS, Random, Shape, pairs, programs};
-use super::worlds::{World, world_of};
+use super::worlds::{World, drain, make, world_of};
 use dashmap_table::SpreadState;
 use mapworld::{Answer, Step};
 use mapworld_oracle::judge::Halfway;
@@ -98,7 +98,7 @@ fn run_some<S: BuildHasher>(
                 fair,
                 deadline,
             };
-            if world.run(&[step]).is_err() {
+            if make(world, step).is_err() {
                 return Ok(Some("a step of a thread that can move, or a deadline, is made"));
             }
             made.push(step)?;
@@ -119,11 +119,11 @@ fn drained<S: BuildHasher>(
 ) -> Result<Broken, AllocError> {
     let bound = world.bound();
     let before = world.steps();
-    let steps = world.drain();
+    let steps = drain(world);
     if steps > bound || world.steps() != before.wrapping_add(steps) {
         return Ok(Some("a drain takes no more steps than the bound"));
     }
-    if world.drain() != 0 {
+    if drain(world) != 0 {
         return Ok(Some("behind a drain there is nothing left to do"));
     }
     tally.add(world, steps, bound);
