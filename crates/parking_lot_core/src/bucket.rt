@@ -25,6 +25,8 @@ pub(crate) struct Bucket<A: Allocator> {
     turns: u64,
     /// Its waiters stand in a larger table.
     pub moved: bool,
+    /// So that it has no cache line in common with the next.
+    spare: [u64; 8],
     ghost below: { turns < 64 },
     ghost apart: { Apart (waits line) },
 }
@@ -39,6 +41,7 @@ impl<A: Allocator> Bucket<A> {
             line: Line::new(),
             turns: 0,
             moved: false,
+            spare: [0; 8],
         }
     }
 
@@ -131,11 +134,13 @@ impl<A: Allocator> Bucket<A> {
                 line: low,
                 turns: self.turns,
                 moved: false,
+                spare: [0; 8],
             },
             Bucket {
                 line: Line::of(high),
                 turns: self.turns,
                 moved: false,
+                spare: [0; 8],
             },
         )
     }

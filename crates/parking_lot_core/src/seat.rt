@@ -25,6 +25,8 @@ pub(crate) struct Seat<A: Allocator> {
     rung: Condvar,
     /// The key of the list in which it stands, or stood last.
     key: AtomicUsize,
+    /// So that it has no cache line in common with the next.
+    spare: [u64; 8],
 }
 
 /// What the thread is told: it is there as soon as its node is back.
@@ -50,6 +52,7 @@ impl<A: Allocator> Seat<A> {
             }),
             rung: Condvar::new(),
             key: AtomicUsize::new(0),
+            spare: [0; 8],
         }
     }
 
