@@ -1,7 +1,10 @@
 //! Calls on one key, and a map's room.
 
-use crate::tables::{Row, Spun, check, map_of};
+use crate::tables::{Row, check, map_of};
 use dashmap_calls::{Answer, Call, Keyed, Many, Try};
+use dashmap_map::DashMap;
+use dashmap_table::SpreadState;
+use lock_api_raw::RawRwLock;
 use std::alloc::Global;
 use std::string::String;
 use std::sync::Wait;
@@ -91,32 +94,43 @@ struct Large {
 }
 
 /// A map of such values.
-type Larges<R> = Spun<u8, Large, R>;
+type Larges<Q> = DashMap<u8, Large, SpreadState, Q>;
 
 /// Whether the value of a key has this text, and the key as its byte.
-fn has<R: Wait + Drop>(map: &Larges<R>, key: u8, text: &str) -> bool {
-    match map.get(&key, &mut 1) {
+fn has<Q: RawRwLock>(map: &Larges<Q>, key: u8, text: &str, me: &mut Q::Party) -> bool
+where
+    Q::Runtime: Wait,
+{
+    match map.get(&key, me) {
         Some(guard) => guard.text.as_str() == text && guard.byte == key,
         None => false,
     }
 }
 
 /// Puts in the value of a key, and tells whether it is new and found.
-fn put<R: Wait + Drop>(map: &Larges<R>, alloc: Global, byte: u8) -> Result<bool, Fail> {
+fn put<Q: RawRwLock>(
+    map: &Larges<Q>,
+    alloc: Global,
+    byte: u8,
+    me: &mut Q::Party,
+) -> Result<bool, Fail>
+where
+    Q::Runtime: Wait,
+{
     let large = Large {
         text: format!(in alloc; "{byte}")?,
         byte,
     };
-    let is_new = matches!(map.insert(byte, large, &mut 1), Ok(None));
+    let is_new = matches!(map.insert(byte, large, me), Ok(None));
     let text = format!(in alloc; "{byte}")?;
-    Ok(is_new && has(map, byte, text.as_str()))
+    Ok(is_new && has(map, byte, text.as_str(), me))
 }
 
 #[test]
 fn values_may_own_memory(rt: HostRuntime) -> Result<(), Fail> {
     let map = map_of(rt, rt.alloc(), 4)?;
     for byte in 0..10u8 {
-        assert!(rt; put(&map, rt.alloc(), byte)?, "of {byte}");
+        assert!(rt; put(&map, rt.alloc(), byte, &mut 1)?, "of {byte}");
     }
     assert!(rt; map.len(&mut 1) == 10);
     Ok(())

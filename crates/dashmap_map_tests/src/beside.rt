@@ -2,9 +2,9 @@
 
 use crate::tables::{map_of, parked};
 use dashmap_calls::{Answer, Call, Keyed, Many, Numbers, Place, call_many, make};
-use dashmap_table::{Shards, SpreadState};
+use dashmap_table::{MapFault, Shards, SpreadState};
 use lock_api_raw::RawRwLock;
-use parking_lot_core::ParkingLot;
+use parking_lot_core::{ParkingLot, ThreadData};
 use parking_lot_rwlock::LockTable;
 use std::alloc::{Allocator, Global};
 use std::hash::BuildHasher;
@@ -38,6 +38,22 @@ fn value_of(plain: &Plain, key: u64) -> Option<u64> {
     Some(*value)
 }
 
+/// Adds to the value of a key that is there.
+fn altered(plain: &mut Plain, key: u64, by: u64) -> Answer {
+    if let Some(value) = value_of(plain, key) {
+        let _old = plain.insert(key, value.wrapping_add(by)).is_ok();
+    }
+    Answer::Done
+}
+
+/// The value of a key, which is put in with this one where it is absent.
+fn found_or_put(plain: &mut Plain, key: u64, value: u64) -> Option<u64> {
+    if value_of(plain, key).is_none() {
+        let _is_new = plain.insert(key, value).is_ok();
+    }
+    value_of(plain, key)
+}
+
 /// What a call answers on plain shards.
 fn answer_of(plain: &mut Plain, call: Call) -> Answer {
     match call {
@@ -48,18 +64,10 @@ fn answer_of(plain: &mut Plain, call: Call) -> Answer {
         ))),
         Call::Key(Keyed::ContainsKey(key)) => Answer::Flag(plain.find(&key).is_some()),
         Call::Key(Keyed::Remove(key)) => Answer::of_pair(plain.remove(&key)),
-        Call::Key(Keyed::Alter(key, by)) => {
-            if let Some(value) = value_of(plain, key) {
-                let _old = plain.insert(key, value.wrapping_add(by)).is_ok();
-            }
-            Answer::Done
-        }
-        Call::Entry(key, Place::OrInsert(value)) => {
-            if value_of(plain, key).is_none() {
-                let _is_new = plain.insert(key, value).is_ok();
-            }
-            Answer::of_value(value_of(plain, key))
-        }
+        Call::Key(Keyed::Alter(key, by)) => altered(plain, key, by),
+        Call::Entry(key, Place::OrInsert(value)) => Answer::of_value(found_or_put(
+            plain, key, value,
+        )),
         _ => Answer::Flag(false),
     }
 }
@@ -80,6 +88,19 @@ where
             return Some(number);
         }
     }
+    last_difference(map, plain, me)
+}
+
+/// The first key, if any, that has another value in a map than in plain shards; or how many keys have one, where the
+/// map has others.
+fn last_difference<S: BuildHasher, Q: RawRwLock, A: Allocator + Clone>(
+    map: &Numbers<S, Q, A>,
+    plain: &Plain,
+    me: &mut Q::Party,
+) -> Option<u64>
+where
+    Q::Runtime: Wait,
+{
     let mut count = 0u64;
     for key in 0..KEYS {
         let value = value_of(plain, key);
@@ -88,24 +109,43 @@ where
             return Some(key);
         }
     }
-    if make(map, Call::Len, me) == Answer::Number(count)
-        && call_many(map, Many::Miss(64, 99), me) == 35
-    {
+    let are_as_many = make(map, Call::Len, me) == Answer::Number(count);
+    if are_as_many && call_many(map, Many::Miss(64, 99), me) == 35 {
         None
     } else {
         Some(count)
     }
 }
 
+/// The first difference between a new map and new plain shards.
+fn difference<Q: RawRwLock>(
+    alloc: Global,
+    map: &Numbers<SpreadState, Q, Global>,
+    me: &mut Q::Party,
+) -> Result<Option<u64>, MapFault>
+where
+    Q::Runtime: Wait,
+{
+    let mut plain = Shards::new(alloc, 8, SpreadState)?;
+    Ok(first_difference(map, &mut plain, me))
+}
+
+/// The same of a new map over the rows of a table.
+fn difference_on<R: Wait>(
+    alloc: Global,
+    table: &LockTable<'_, R>,
+    me: &mut ThreadData,
+) -> Result<Option<u64>, MapFault> {
+    difference(alloc, &parked(alloc, table, 8)?, me)
+}
+
 #[test]
 fn a_map_answers_as_plain_shards_do(rt: HostRuntime) -> Result<(), Fail> {
-    let mut plain = Shards::new(rt.alloc(), 8, SpreadState)?;
-    let spun = first_difference(&map_of(rt, rt.alloc(), 8)?, &mut plain, &mut 1);
+    let spun = difference(rt.alloc(), &map_of(rt, rt.alloc(), 8)?, &mut 1)?;
     let lot = ParkingLot::new(rt, rt.alloc(), 1, 7)?;
-    let table = LockTable::new(rt.alloc(), &lot, 8)?;
-    let mut plain = Shards::new(rt.alloc(), 8, SpreadState)?;
     let mut me = lot.thread_data()?;
-    let parked = first_difference(&parked(rt.alloc(), &table, 8)?, &mut plain, &mut me);
+    let table = LockTable::new(rt.alloc(), &lot, 8)?;
+    let parked = difference_on(rt.alloc(), &table, &mut me)?;
     assert!(rt; spun.is_none() && parked.is_none(), "{spun:?} {parked:?}");
     Ok(())
 }

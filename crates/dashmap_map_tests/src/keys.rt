@@ -4,7 +4,8 @@ use crate::tables::{Row, Spun, check, map_of};
 use dashmap_calls::{Answer, Call, Keyed, Many, Numbers, run};
 use dashmap_map::DashMap;
 use dashmap_map::mapref::entry::Entry;
-use dashmap_table::MapFault;
+use dashmap_table::{MapFault, SpreadState};
+use lock_api_raw::RawRwLock;
 use lock_api_spin::PackedLock;
 use std::alloc::Global;
 use std::hash::{BuildHasher, Hasher};
@@ -59,12 +60,20 @@ impl BuildHasher for OneHash {
 }
 
 /// A map of letters.
-type Letters<R> = Spun<Letter, u64, R>;
+type Letters<Q> = DashMap<Letter, u64, SpreadState, Q>;
 
 /// Writes a value at the place of a letter that is there. Answers the value that was there, and the letter as it is
 /// stored.
-fn written<R: Wait + Drop>(map: &Letters<R>, letter: u8, value: u64) -> Option<(u64, u8)> {
-    match map.entry(Letter::of(letter), &mut 1) {
+fn written<Q: RawRwLock>(
+    map: &Letters<Q>,
+    letter: u8,
+    value: u64,
+    me: &mut Q::Party,
+) -> Option<(u64, u8)>
+where
+    Q::Runtime: Wait,
+{
+    match map.entry(Letter::of(letter), me) {
         Ok(Entry::Occupied(mut entry)) => {
             let old = entry.insert(value);
             Some((old, entry.key().shown))
@@ -74,8 +83,16 @@ fn written<R: Wait + Drop>(map: &Letters<R>, letter: u8, value: u64) -> Option<(
 }
 
 /// Replaces the pair at the place of a letter that is there, and answers the old one.
-fn replaced<R: Wait + Drop>(map: &Letters<R>, letter: u8, value: u64) -> Option<(u8, u64)> {
-    match map.entry(Letter::of(letter), &mut 1) {
+fn replaced<Q: RawRwLock>(
+    map: &Letters<Q>,
+    letter: u8,
+    value: u64,
+    me: &mut Q::Party,
+) -> Option<(u8, u64)>
+where
+    Q::Runtime: Wait,
+{
+    match map.entry(Letter::of(letter), me) {
         Ok(Entry::Occupied(entry)) => {
             let (stored, old) = entry.replace_entry(value);
             Some((stored.shown, old))
@@ -84,26 +101,37 @@ fn replaced<R: Wait + Drop>(map: &Letters<R>, letter: u8, value: u64) -> Option<
     }
 }
 
+/// Whether a stored letter stays while its value is written, and goes once its pair is replaced.
+fn stays_until_it_is_replaced<Q: RawRwLock>(map: &Letters<Q>, me: &mut Q::Party) -> bool
+where
+    Q::Runtime: Wait,
+{
+    let mut right = map.insert(Letter::of(b'k'), 1, me) == Ok(None);
+    right &= written(map, b'K', 2, me) == Some((1, b'k'));
+    right &= replaced(map, b'K', 3, me) == Some((b'k', 2));
+    match map.remove(&Letter::of(b'k'), me) {
+        Some((stored, value)) => right & (stored.shown == b'K') & (value == 3),
+        None => false,
+    }
+}
+
 #[test]
 fn a_stored_key_stays_until_it_is_replaced(rt: HostRuntime) -> Result<(), Fail> {
-    let map: Letters<HostRuntime> = map_of(rt, rt.alloc(), 4)?;
-    let is_new = map.insert(Letter::of(b'k'), 1, &mut 1) == Ok(None);
-    assert!(rt; is_new && written(&map, b'K', 2) == Some((1, b'k')));
-    assert!(rt; replaced(&map, b'K', 3) == Some((b'k', 2)));
-    let (stored, value) = map
-        .remove(&Letter::of(b'k'), &mut 1)
-        .ok_or("nothing is there")?;
-    assert!(rt; stored.shown == b'K' && value == 3);
+    assert!(rt; stays_until_it_is_replaced(&map_of(rt, rt.alloc(), 4)?, &mut 1));
     Ok(())
+}
+
+/// Whether a map has one unit.
+fn has_one_unit<R: Wait + Drop>(map: &Spun<(), u64, R>) -> bool {
+    let mut right = map.insert((), 1, &mut 1) == Ok(None);
+    right &= map.insert((), 2, &mut 1) == Ok(Some(1));
+    right &= map.len(&mut 1) == 1 && map.determine_map(&()) < 2;
+    right && map.remove(&(), &mut 1) == Some(((), 2))
 }
 
 #[test]
 fn there_is_one_unit(rt: HostRuntime) -> Result<(), Fail> {
-    let map: Spun<(), u64, HostRuntime> = map_of(rt, rt.alloc(), 2)?;
-    let mut right = map.insert((), 1, &mut 1) == Ok(None);
-    right &= map.insert((), 2, &mut 1) == Ok(Some(1));
-    right &= map.len(&mut 1) == 1 && map.determine_map(&()) < 2;
-    assert!(rt; right && map.remove(&(), &mut 1) == Some(((), 2)));
+    assert!(rt; has_one_unit(&map_of(rt, rt.alloc(), 2)?));
     Ok(())
 }
 

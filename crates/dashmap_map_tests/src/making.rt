@@ -1,6 +1,6 @@
 //! How maps are made, and what they are refused as.
 
-use crate::tables::{Row, Spun};
+use crate::tables::{Row, Spun, map_of};
 use dashmap_calls::{Answer, Call, Keyed, Numbers, run};
 use dashmap_map::{DashMap, NewFault};
 use dashmap_table::{MapFault, SpreadState};
@@ -30,35 +30,35 @@ fn refused<R: Copy + Drop>(
     made.err()
 }
 
+/// How much room a map is to have and how many shards, and what it is refused as.
+const AMOUNTS: &[(usize, usize, Option<MapFault>)] = &[
+    (0, 0, Some(MapFault::BadShards)),
+    (0, 1, Some(MapFault::BadShards)),
+    (0, 3, Some(MapFault::BadShards)),
+    (0, 131_072, Some(MapFault::BadShards)),
+    (usize::MAX, 4, Some(MapFault::CapacityOverflow)),
+    (0, 2, None),
+];
+
 #[test]
 fn a_shard_amount_is_a_power_of_two(rt: HostRuntime) {
-    for (capacity, shards, fault) in [
-        (0, 0, Some(MapFault::BadShards)),
-        (0, 1, Some(MapFault::BadShards)),
-        (0, 3, Some(MapFault::BadShards)),
-        (0, 131_072, Some(MapFault::BadShards)),
-        (usize::MAX, 4, Some(MapFault::CapacityOverflow)),
-        (0, 2, None),
-    ] {
-        assert!(rt;
-            refused(rt, rt.alloc(), capacity, shards) == fault,
-            "{capacity} {shards}"
-        );
+    for (capacity, shards, fault) in AMOUNTS {
+        let made = refused(rt, rt.alloc(), *capacity, *shards);
+        assert!(rt; made == *fault, "{capacity} {shards}");
     }
+}
+
+/// Whether a map makes room for ten pairs, but not for more than there may be, and gives it up once it is empty.
+fn makes_room<R: Wait + Drop>(map: &mut Spun<u64, u64, R>) -> bool {
+    let mut right = map.capacity(&mut 1) == 0 && map.try_reserve(usize::MAX).is_err();
+    right &= map.len(&mut 1) == 0 && map.try_reserve(10).is_ok() && map.capacity(&mut 1) >= 10;
+    right &= map.insert_mut(1, 2) == Ok(None) && map.remove(&1, &mut 1) == Some((1, 2));
+    right && map.shrink_to_fit(&mut 1).is_ok() && map.capacity(&mut 1) == 0
 }
 
 #[test]
 fn room_is_made_and_given_up(rt: HostRuntime) -> Result<(), Fail> {
-    let mut map: Spun<u64, u64, HostRuntime> = DashMap::with_hasher_and_shard_amount(
-        rt.alloc(),
-        SpreadState,
-        4,
-        rt,
-    )?;
-    let mut right = map.capacity(&mut 1) == 0 && map.try_reserve(usize::MAX).is_err();
-    right &= map.len(&mut 1) == 0 && map.try_reserve(10).is_ok() && map.capacity(&mut 1) >= 10;
-    right &= map.insert_mut(1, 2) == Ok(None) && map.remove(&1, &mut 1) == Some((1, 2));
-    assert!(rt; right && map.shrink_to_fit(&mut 1).is_ok() && map.capacity(&mut 1) == 0);
+    assert!(rt; makes_room(&mut map_of(rt, rt.alloc(), 4)?));
     Ok(())
 }
 
@@ -72,19 +72,20 @@ fn default_amount<R: Copy + Drop>(
     Ok(map.determine_shard(usize::MAX).wrapping_add(1))
 }
 
+/// For how many threads a map is, and how many shards it has then.
+const BY_THREADS: &[(usize, Result<usize, MapFault>)] = &[
+    (0, Ok(4)),
+    (1, Ok(4)),
+    (3, Ok(16)),
+    (16_384, Ok(65_536)),
+    (16_385, Err(MapFault::BadShards)),
+];
+
 #[test]
 fn a_default_amount_is_four_for_each_thread(rt: HostRuntime) {
-    for (threads, amount) in [
-        (0, Ok(4)),
-        (1, Ok(4)),
-        (3, Ok(16)),
-        (16_384, Ok(65_536)),
-        (16_385, Err(MapFault::BadShards)),
-    ] {
-        assert!(rt;
-            default_amount(rt, rt.alloc(), threads) == amount,
-            "for {threads}"
-        );
+    for (threads, amount) in BY_THREADS {
+        let made = default_amount(rt, rt.alloc(), *threads);
+        assert!(rt; made == *amount, "for {threads}");
     }
 }
 

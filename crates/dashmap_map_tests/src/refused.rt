@@ -44,39 +44,62 @@ fn has_all<R: Wait + Drop>(map: &Small<'_, R>, count: u64) -> bool {
         && answers(map, Call::Len, Answer::Number(count))
 }
 
+/// What an owner was told: whether room was had, and whether a pair was refused.
+#[derive(Clone, Copy)]
+struct Told {
+    reserved: bool,
+    refused: bool,
+}
+
+/// Reserves room for ten pairs, and tells whether it was had. None where it isn't there then, or other keys are there
+/// than those below a number.
+fn reserves<R: Wait + Drop>(map: &mut Small<'_, R>, count: u64) -> Option<bool> {
+    let is_had = map.try_reserve(10).is_ok();
+    let has_room = !is_had || answers(map, Call::HasRoom(20), Answer::Flag(true));
+    (has_room & has_all(map, count)).then_some(is_had)
+}
+
+/// Puts a key in, and tells whether it was refused. None where it didn't come back then, or is there.
+fn is_refused<R: Wait + Drop>(map: &mut Small<'_, R>, key: u64) -> Option<bool> {
+    let is_back = match map.insert_mut(key, 7) {
+        Ok(_) => return Some(false),
+        Err(back) => back == (key, 7),
+    };
+    let look = Call::Key(Keyed::ContainsKey(key));
+    (is_back & answers(map, look, Answer::Flag(false))).then_some(true)
+}
+
+/// Puts the keys from a number up to 20 in, and tells whether one was refused.
+fn are_refused<R: Wait + Drop>(map: &mut Small<'_, R>, count: u64) -> Option<bool> {
+    let mut refused = false;
+    for key in count..20 {
+        refused |= is_refused(map, key)?;
+    }
+    Some(refused)
+}
+
+/// Makes the calls of an owner on a map that has as many of three keys as are had. None where one is answered otherwise
+/// than it is to be.
+fn owner_told<R: Wait + Drop>(map: &mut Small<'_, R>) -> Option<Told> {
+    let count = filled(map, 3);
+    let reserved = reserves(map, count)?;
+    let refused = are_refused(map, count)?;
+    let is_kept = count == 0 || map.insert_mut(0, 9) == Ok(Some(0));
+    is_kept.then_some(Told { reserved, refused })
+}
+
 #[test]
 fn the_owner_is_refused_alike(rt: HostRuntime) -> Result<(), Fail> {
     let (mut refused, mut unreserved, mut reserved) = (false, false, false);
     for size in 0..60 {
         let heap = LocalHeap::new(rt.alloc(), size * 64)?;
-        let Ok(mut map) = small(rt, &heap, 0, 2) else {
-            continue;
-        };
-        let count = filled(&map, 3);
-        if map.try_reserve(10).is_ok() {
-            reserved = true;
-            assert!(rt;
-                answers(&map, Call::HasRoom(20), Answer::Flag(true)),
-                "of {size}"
-            );
-        } else {
-            unreserved = true;
+        if let Ok(mut map) = small(rt, &heap, 0, 2) {
+            let told = owner_told(&mut map);
+            assert!(rt; told.is_some(), "of {size}");
+            refused |= matches!(told, Some(told) if told.refused);
+            reserved |= matches!(told, Some(told) if told.reserved);
+            unreserved |= matches!(told, Some(told) if !told.reserved);
         }
-        assert!(rt; has_all(&map, count), "of {size}");
-        for key in count..20 {
-            if let Err(back) = map.insert_mut(key, 7) {
-                refused = true;
-                let look = Call::Key(Keyed::ContainsKey(key));
-                assert!(rt;
-                    back == (key, 7) && answers(&map, look, Answer::Flag(false)),
-                    "of {size}"
-                );
-            }
-        }
-        assert!(rt;
-            count == 0 || map.insert_mut(0, 9) == Ok(Some(0)),
-            "of {size}"
-        );
     }
     assert!(rt; refused && unreserved && reserved);
     Ok(())
@@ -98,33 +121,59 @@ fn filling<'h>(
     Ok(blocks)
 }
 
+/// Shrinks a map while so many blocks are taken of its heap, and tells whether that was done.
+fn shrinks<R: Wait + Drop>(
+    alloc: Global,
+    heap: &LocalHeap,
+    map: &Small<'_, R>,
+    most: u64,
+) -> Result<bool, Fail> {
+    let _blocks = filling(alloc, heap, most)?;
+    Ok(answers(map, Call::ShrinkToFit, Answer::Flag(true)))
+}
+
+/// Takes all pairs but the first two out of a map that has as many of 24 keys as are had, and shrinks it. None where it
+/// has other pairs then, or more room than before.
+fn shrinks_to_two<R: Wait + Drop>(
+    alloc: Global,
+    heap: &LocalHeap,
+    map: &Small<'_, R>,
+    most: u64,
+) -> Result<Option<bool>, Fail> {
+    let count = filled(map, 24);
+    let gone = call_many(map, Many::Remove(2, count, 0), &mut 1);
+    let room = map.capacity(&mut 1);
+    let is_done = shrinks(alloc, heap, map, most)?;
+    let is_kept = map.capacity(&mut 1) <= room && has_all(map, count.min(2));
+    Ok((is_kept & (gone == count.saturating_sub(2))).then_some(is_done))
+}
+
 #[test]
 fn a_refused_shrink_keeps_the_pairs(rt: HostRuntime) -> Result<(), Fail> {
     let (mut refused, mut done) = (false, false);
     for size in 8..80 {
         let heap = LocalHeap::new(rt.alloc(), size * 64)?;
-        let Ok(map) = small(rt, &heap, 0, 2) else {
-            continue;
-        };
-        let count = filled(&map, 24);
-        let gone = call_many(&map, Many::Remove(2, count, 0), &mut 1);
-        assert!(rt; gone == count.saturating_sub(2), "of {size}");
-        let room = map.capacity(&mut 1);
-        let most = if size % 2 == 0 { 400 } else { 0 };
-        let blocks = filling(rt.alloc(), &heap, most)?;
-        if answers(&map, Call::ShrinkToFit, Answer::Flag(true)) {
-            done = true;
-        } else {
-            refused = true;
+        if let Ok(map) = small(rt, &heap, 0, 2) {
+            let most = if size % 2 == 0 { 400 } else { 0 };
+            let is_done = shrinks_to_two(rt.alloc(), &heap, &map, most)?;
+            assert!(rt; is_done.is_some(), "of {size}");
+            done |= is_done == Some(true);
+            refused |= is_done == Some(false);
         }
-        drop(blocks);
-        assert!(rt;
-            map.capacity(&mut 1) <= room && has_all(&map, count.min(2)),
-            "of {size}"
-        );
     }
     assert!(rt; refused && done);
     Ok(())
+}
+
+/// As what a map for so many threads is refused.
+fn refused_default<R: Copy + Drop>(rt: R, alloc: Global, threads: usize) -> Option<MapFault> {
+    let made: Result<Spun<u64, u64, R>, MapFault> = DashMap::with_hasher(
+        alloc,
+        SpreadState,
+        threads,
+        rt,
+    );
+    made.err()
 }
 
 #[test]
@@ -138,12 +187,6 @@ fn a_map_is_refused_for_its_amount_first(rt: HostRuntime) -> Result<(), Fail> {
         let made = small(rt, &heap, capacity, shards);
         assert!(rt; made.err() == Some(fault), "of {shards}");
     }
-    let made: Result<Spun<u64, u64, HostRuntime>, MapFault> = DashMap::with_hasher(
-        rt.alloc(),
-        SpreadState,
-        16_385,
-        rt,
-    );
-    assert!(rt; made.err() == Some(MapFault::BadShards));
+    assert!(rt; refused_default(rt, rt.alloc(), 16_385) == Some(MapFault::BadShards));
     Ok(())
 }

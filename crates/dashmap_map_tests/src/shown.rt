@@ -1,11 +1,12 @@
 //! A map's text, its guards' and its items', and many pairs at once.
 
 use crate::tables::{Spun, map_of};
-use dashmap_calls::{Answer, Call, Keyed, make};
+use dashmap_calls::{Answer, Call, Keyed, Numbers, make};
 use dashmap_iter::LendingWalks;
 use dashmap_map::DashMap;
 use dashmap_table::{MapFault, SpreadState};
 use linked_list_allocator::LocalHeap;
+use lock_api_raw::RawRwLock;
 use lock_api_spin::PackedLock;
 use std::alloc::{AllocError, Global};
 use std::fmt::Debug;
@@ -19,11 +20,15 @@ fn text_of<T: Debug>(value: &T, alloc: Global) -> Result<String, AllocError> {
 }
 
 /// What is printed of a map while a guard of key 1 writes.
-fn text_beside_writer<R: Wait + Drop>(
-    map: &Spun<u64, u64, R>,
+fn text_beside_writer<Q: RawRwLock>(
+    map: &Numbers<SpreadState, Q, Global>,
     alloc: Global,
-) -> Result<Option<String>, AllocError> {
-    match map.get_mut(&1, &mut 1) {
+    me: &mut Q::Party,
+) -> Result<Option<String>, AllocError>
+where
+    Q::Runtime: Wait,
+{
+    match map.get_mut(&1, me) {
         Some(_guard) => Ok(Some(text_of(map, alloc)?)),
         None => Ok(None),
     }
@@ -36,50 +41,66 @@ fn a_map_is_shown(rt: HostRuntime) -> Result<(), Fail> {
     let mut right = map.insert(1, 2, &mut 1) == Ok(None);
     right &= text_of(&map, rt.alloc())?.as_str() == "{1: 2}";
     right &= map.insert(0, 5, &mut 1) == Ok(None);
-    let text = text_beside_writer(&map, rt.alloc())?.ok_or("gone")?;
+    let text = text_beside_writer(&map, rt.alloc(), &mut 1)?.ok_or("gone")?;
     assert!(rt; right && text.as_str() == "{0: 5, <locked>}");
     Ok(())
 }
 
 /// What is printed of a guard that reads key 1, and of the value that it lends.
-fn text_of_reader<R: Wait + Drop>(
-    map: &Spun<u64, u64, R>,
+fn text_of_reader<Q: RawRwLock>(
+    map: &Numbers<SpreadState, Q, Global>,
     alloc: Global,
-) -> Result<Option<(String, String)>, AllocError> {
-    match map.get(&1, &mut 1) {
+    me: &mut Q::Party,
+) -> Result<Option<(String, String)>, AllocError>
+where
+    Q::Runtime: Wait,
+{
+    match map.get(&1, me) {
         Some(guard) => Ok(Some((text_of(&guard, alloc)?, text_of(&*guard, alloc)?))),
         None => Ok(None),
     }
 }
 
 /// What is printed of a guard that writes key 1.
-fn text_of_writer<R: Wait + Drop>(
-    map: &Spun<u64, u64, R>,
+fn text_of_writer<Q: RawRwLock>(
+    map: &Numbers<SpreadState, Q, Global>,
     alloc: Global,
-) -> Result<Option<String>, AllocError> {
-    match map.get_mut(&1, &mut 1) {
+    me: &mut Q::Party,
+) -> Result<Option<String>, AllocError>
+where
+    Q::Runtime: Wait,
+{
+    match map.get_mut(&1, me) {
         Some(guard) => Ok(Some(text_of(&guard, alloc)?)),
         None => Ok(None),
     }
 }
 
 /// What is printed of the first item of a walk that writes.
-fn text_of_item<R: Wait + Drop>(
-    map: &Spun<u64, u64, R>,
+fn text_of_item<Q: RawRwLock>(
+    map: &Numbers<SpreadState, Q, Global>,
     alloc: Global,
-) -> Result<Option<String>, AllocError> {
-    match map.iter_mut(&mut 1).next_mut() {
+    me: &mut Q::Party,
+) -> Result<Option<String>, AllocError>
+where
+    Q::Runtime: Wait,
+{
+    match map.iter_mut(me).next_mut() {
         Some(pair) => Ok(Some(text_of(&pair, alloc)?)),
         None => Ok(None),
     }
 }
 
 /// Whether a guard that reads key 1 is shown, and the value that it lends.
-fn shows_reader<R: Wait + Drop>(
-    map: &Spun<u64, u64, R>,
+fn shows_reader<Q: RawRwLock>(
+    map: &Numbers<SpreadState, Q, Global>,
     alloc: Global,
-) -> Result<bool, AllocError> {
-    match text_of_reader(map, alloc)? {
+    me: &mut Q::Party,
+) -> Result<bool, AllocError>
+where
+    Q::Runtime: Wait,
+{
+    match text_of_reader(map, alloc, me)? {
         Some((guard, value)) => Ok(guard.as_str() == "Ref { k: 1, v: 2 }" && value.as_str() == "2"),
         None => Ok(false),
     }
@@ -96,10 +117,13 @@ fn is_text(text: Option<String>, wanted: &str) -> bool {
 #[test]
 fn guards_and_items_are_shown(rt: HostRuntime) -> Result<(), Fail> {
     let map: Spun<u64, u64, HostRuntime> = map_of(rt, rt.alloc(), 2)?;
-    let mut right = map.insert(1, 2, &mut 1) == Ok(None) && shows_reader(&map, rt.alloc())?;
-    right &= is_text(text_of_writer(&map, rt.alloc())?, "RefMut { k: 1, v: 2 }");
+    let mut right = map.insert(1, 2, &mut 1) == Ok(None) && shows_reader(&map, rt.alloc(), &mut 1)?;
     right &= is_text(
-        text_of_item(&map, rt.alloc())?,
+        text_of_writer(&map, rt.alloc(), &mut 1)?,
+        "RefMut { k: 1, v: 2 }",
+    );
+    right &= is_text(
+        text_of_item(&map, rt.alloc(), &mut 1)?,
         "RefMutMulti { k: 1, v: 2 }",
     );
     assert!(rt; right);

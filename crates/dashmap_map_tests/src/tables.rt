@@ -4,12 +4,13 @@ pub use dashmap_calls::Row;
 use dashmap_calls::{Call, Numbers, make, run};
 use dashmap_map::DashMap;
 use dashmap_table::{MapFault, SpreadState};
+use lock_api_raw::RawRwLock;
 use lock_api_spin::PackedLock;
 use parking_lot_core::{ParkingLot, ThreadData};
 use parking_lot_rwlock::LockTable;
 use refusing_heap::{Refusal, RefusingHeap, each_growth};
-use std::alloc::Global;
-use std::hash::Hash;
+use std::alloc::{Allocator, Global};
+use std::hash::{BuildHasher, Hash};
 use std::sync::Wait;
 use std::test::Fail;
 
@@ -41,9 +42,27 @@ pub fn parked<'t, 'l, R: Wait>(
     DashMap::with_hasher_and_shard_amount(alloc, SpreadState, shards, table)
 }
 
-/// Makes the calls of a table on an empty map in that heap. A call that is refused a growth is made again, and is
-/// answered then as the row says; but where it is on many keys, of which some are in by then. Fails with the number of
-/// the first row that is answered otherwise.
+/// Makes a call on a map in that heap. One that is refused a growth is made again, and is answered then as it is to be;
+/// but where it is on many keys, of which some are in by then. Whether it was answered so.
+fn is_answered<S: BuildHasher, Q: RawRwLock, A: Allocator + Clone>(
+    map: &Numbers<S, Q, A>,
+    heap: &RefusingHeap<Global>,
+    (call, wanted): Row,
+    me: &mut Q::Party,
+) -> bool
+where
+    Q::Runtime: Wait,
+{
+    let refused = heap.refused();
+    if make(map, call, me) == wanted {
+        return true;
+    }
+    let is_refused = heap.refused() > refused;
+    is_refused && (make(map, call, me) == wanted || matches!(call, Call::Many(_)))
+}
+
+/// Makes the calls of a table on an empty map in that heap, each again that is refused a growth. Fails with the number
+/// of the first row that is answered otherwise.
 fn run_again<R: Wait + Copy + Drop>(
     rt: R,
     heap: &RefusingHeap<Global>,
@@ -56,16 +75,7 @@ fn run_again<R: Wait + Copy + Drop>(
         return if heap.refused() == 1 { Ok(()) } else { Err(0) };
     };
     for row in 0..rows.len() {
-        let (call, wanted) = rows[row];
-        let refused = heap.refused();
-        let mut answer = make(&map, call, &mut 1);
-        if answer != wanted && heap.refused() > refused {
-            answer = make(&map, call, &mut 1);
-            if matches!(call, Call::Many(_)) {
-                answer = wanted;
-            }
-        }
-        if answer != wanted {
+        if !is_answered(&map, heap, rows[row], &mut 1) {
             return Err(row);
         }
     }

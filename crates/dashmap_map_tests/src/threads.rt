@@ -6,7 +6,7 @@ use dashmap_map::DashMap;
 use dashmap_table::{MapFault, SpreadState};
 use linked_list_allocator::LocalHeap;
 use lock_api_raw::RawRwLock;
-use parking_lot_core::{ParkingLot, ThreadData};
+use parking_lot_core::{LotFault, ParkingLot, ThreadData};
 use parking_lot_rwlock::LockTable;
 use std::alloc::Global;
 use std::rt::Clock;
@@ -125,6 +125,54 @@ fn four_do<R: Wait + Threads + Sync>(
     first & second
 }
 
+/// A job with a thread for it.
+fn worker<R: Wait>(lot: &ParkingLot<R>, job: Job) -> Result<Worker, LotFault> {
+    Ok((job, lot.thread_data()?))
+}
+
+/// Has four threads of a lot do their jobs, and tells whether each call was answered as it is to be.
+fn all_do<R: Wait + Threads + Sync>(
+    rt: &R,
+    lot: &ParkingLot<R>,
+    map: &Parked<'_, '_, R>,
+    jobs: [Job; 4],
+) -> Result<bool, LotFault> {
+    let [one, two, three, four] = jobs;
+    let first = (worker(lot, one)?, worker(lot, two)?);
+    let second = (worker(lot, three)?, worker(lot, four)?);
+    Ok(four_do(rt, map, first, second))
+}
+
+/// The sum of the numbers, each of which is taken out, if there are as many keys as are to be, and none then.
+fn sum_of_all<Q: RawRwLock>(map: &Numbers<SpreadState, Q, Global>, me: &mut Q::Party) -> Option<u64>
+where
+    Q::Runtime: Wait,
+{
+    let are_all = make(map, Call::Len, me) == Answer::Number(KEYS);
+    let sum = sum_of(map, me);
+    if are_all & (make(map, Call::IsEmpty, me) == Answer::Flag(true)) {
+        sum
+    } else {
+        None
+    }
+}
+
+/// Has four threads of a lot share a map over rows of a table: what 64 zeros add up to then, if each call was answered
+/// as it is to be.
+fn shared_on<R: Wait + Threads + Sync>(
+    rt: &R,
+    alloc: Global,
+    table: &LockTable<'_, R>,
+    me: &mut ThreadData,
+    jobs: [Job; 4],
+) -> Result<Option<u64>, Fail> {
+    let map = parked(alloc, table, 8)?;
+    let are_zeros = call_many(&map, Many::Zero(0, KEYS), me) == KEYS;
+    let are_right = all_do(rt, table.lot(), &map, jobs)?;
+    let sum = sum_of_all(&map, me);
+    Ok(if are_zeros & are_right { sum } else { None })
+}
+
 /// Has four threads share a map of 64 zeros. It answers what the numbers add up to, if each call was answered as it is
 /// to be.
 fn shared<R: Wait + Threads + Sync + Copy>(
@@ -134,22 +182,8 @@ fn shared<R: Wait + Threads + Sync + Copy>(
 ) -> Result<Option<u64>, Fail> {
     let lot = ParkingLot::new(rt, alloc, 5, 7)?;
     let mut me = lot.thread_data()?;
-    let (one, two) = (lot.thread_data()?, lot.thread_data()?);
-    let (three, four) = (lot.thread_data()?, lot.thread_data()?);
     let table = LockTable::new(alloc, &lot, 8)?;
-    let made: Result<Parked<'_, '_, R>, MapFault> = parked(alloc, &table, 8);
-    let map = made?;
-    let mut right = call_many(&map, Many::Zero(0, KEYS), &mut me) == KEYS;
-    right &= four_do(
-        &rt,
-        &map,
-        ((jobs[0], one), (jobs[1], two)),
-        ((jobs[2], three), (jobs[3], four)),
-    );
-    right &= make(&map, Call::Len, &mut me) == Answer::Number(KEYS);
-    let sum = sum_of(&map, &mut me);
-    right &= make(&map, Call::IsEmpty, &mut me) == Answer::Flag(true);
-    Ok(if right { sum } else { None })
+    shared_on(&rt, alloc, &table, &mut me, jobs)
 }
 
 /// Jobs of four threads, and the sum that they make of 64 zeros.
@@ -198,20 +232,25 @@ fn saw<C: Clock>(clock: &C, flag: &AtomicBool) -> bool {
 }
 
 /// Holds key 0 until the other thread's insertion was answered, and tells whether it was.
-fn holds<R: Wait + Clock>(
+fn holds<R: Clock, Q: RawRwLock<Party = ThreadData<Global>>>(
     rt: &R,
-    map: &Parked<'_, '_, R>,
+    map: &Numbers<SpreadState, Q, Global>,
     mut me: ThreadData<Global>,
     held: &AtomicBool,
     answered: &AtomicBool,
-) -> bool {
-    let Some(mut guard) = map.get_mut(&0, &mut me) else {
-        return false;
-    };
-    held.store(true, Ordering::SeqCst);
-    let is_answered = saw(rt, answered);
-    *guard = 9;
-    is_answered
+) -> bool
+where
+    Q::Runtime: Wait,
+{
+    match map.get_mut(&0, &mut me) {
+        Some(mut guard) => {
+            held.store(true, Ordering::SeqCst);
+            let is_answered = saw(rt, answered);
+            *guard = 9;
+            is_answered
+        }
+        None => false,
+    }
 }
 
 /// Puts a key of the other shard in while key 0 is held.
@@ -228,24 +267,43 @@ fn inserts<R: Wait + Clock>(
     is_held & is_new
 }
 
-#[test]
-fn two_shards_are_held_at_once(rt: HostRuntime) -> Result<(), Fail> {
-    let lot = ParkingLot::new(rt, rt.alloc(), 3, 7)?;
-    let table = LockTable::new(rt.alloc(), &lot, 2)?;
-    let map = parked(rt.alloc(), &table, 2)?;
-    let mut me = lot.thread_data()?;
-    let (one, two) = (lot.thread_data()?, lot.thread_data()?);
-    let mut right = map.insert(0, 0, &mut me) == Ok(None);
-    right &= map.determine_map(&0) == 0 && map.determine_map(&1) == 1;
+/// Has one thread hold key 0 and another insert key 1, and tells whether both went as they are to.
+fn both<R: Wait + Threads + Clock + Sync>(
+    rt: &R,
+    map: &Parked<'_, '_, R>,
+    one: ThreadData<Global>,
+    two: ThreadData<Global>,
+) -> bool {
     let held = AtomicBool::new(false);
     let answered = AtomicBool::new(false);
     let ended = thread::join(
-        &rt,
-        || holds(&rt, &map, one, &held, &answered),
-        || inserts(&rt, &map, two, &held, &answered),
+        rt,
+        || holds(rt, map, one, &held, &answered),
+        || inserts(rt, map, two, &held, &answered),
     );
-    right &= map.remove(&0, &mut me) == Some((0, 9));
-    assert!(rt; right && ended == (true, true) && map.contains_key(&1, &mut me));
+    ended == (true, true)
+}
+
+/// Whether key 0 is put in on the first of two shards, and key 1 belongs on the second.
+fn has_two_shards<R: Wait>(map: &Parked<'_, '_, R>, me: &mut ThreadData<Global>) -> bool {
+    let is_new = map.insert(0, 0, me) == Ok(None);
+    is_new & (map.determine_map(&0) == 0) & (map.determine_map(&1) == 1)
+}
+
+/// Whether key 0 has what was written while it was held, and key 1 is there.
+fn has_both<R: Wait>(map: &Parked<'_, '_, R>, me: &mut ThreadData<Global>) -> bool {
+    (map.remove(&0, me) == Some((0, 9))) & map.contains_key(&1, me)
+}
+
+#[test]
+fn two_shards_are_held_at_once(rt: HostRuntime) -> Result<(), Fail> {
+    let lot = ParkingLot::new(rt, rt.alloc(), 3, 7)?;
+    let mut me = lot.thread_data()?;
+    let table = LockTable::new(rt.alloc(), &lot, 2)?;
+    let map = parked(rt.alloc(), &table, 2)?;
+    assert!(rt; has_two_shards(&map, &mut me));
+    assert!(rt; both(&rt, &map, lot.thread_data()?, lot.thread_data()?));
+    assert!(rt; has_both(&map, &mut me));
     Ok(())
 }
 
@@ -256,18 +314,35 @@ type Small<'t, 'l, 'h, R> = Numbers<
     &'h LocalHeap,
 >;
 
+/// As what a map of four shards is refused in that heap.
+fn refused<R: Wait>(heap: &LocalHeap, table: &LockTable<'_, R>) -> Option<MapFault> {
+    let made: Result<Small<'_, '_, '_, R>, MapFault> = DashMap::with_hasher_and_shard_amount(
+        heap,
+        SpreadState,
+        4,
+        table,
+    );
+    made.err()
+}
+
+/// As what it is refused in a heap without memory, twice, where a table has so many rows.
+fn refused_twice<R: Wait>(
+    alloc: Global,
+    lot: &ParkingLot<R>,
+    rows: usize,
+) -> Result<[Option<MapFault>; 2], Fail> {
+    let table = LockTable::new(alloc, lot, rows)?;
+    let heap = LocalHeap::new(alloc, 0)?;
+    Ok([refused(&heap, &table), refused(&heap, &table)])
+}
+
 #[test]
 fn a_full_table_is_told_before_want_of_memory(rt: HostRuntime) -> Result<(), Fail> {
+    let (full, memory) = (Some(MapFault::TableFull), Some(MapFault::NoMemory));
     let lot = ParkingLot::new(rt, rt.alloc(), 1, 7)?;
+    let faults = refused_twice(rt.alloc(), &lot, 6)?;
+    assert!(rt; faults == [memory, full]);
     let table = LockTable::new(rt.alloc(), &lot, 3)?;
-    let made = parked(rt.alloc(), &table, 4);
-    assert!(rt; made.err() == Some(MapFault::TableFull));
-    let table = LockTable::new(rt.alloc(), &lot, 6)?;
-    let heap = LocalHeap::new(rt.alloc(), 0)?;
-    for fault in [MapFault::NoMemory, MapFault::TableFull] {
-        let made: Result<Small<'_, '_, '_, HostRuntime>, MapFault> =
-            DashMap::with_hasher_and_shard_amount(&heap, SpreadState, 4, &table);
-        assert!(rt; made.err() == Some(fault));
-    }
+    assert!(rt; parked(rt.alloc(), &table, 4).err() == full);
     Ok(())
 }

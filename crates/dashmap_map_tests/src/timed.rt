@@ -12,7 +12,7 @@ use lock_api_rw::Evidence;
 use lock_api_spin::PackedLock;
 use parking_lot_core::ParkingLot;
 use parking_lot_rwlock::LockTable;
-use std::alloc::Allocator;
+use std::alloc::{Allocator, Global};
 use std::rt::Clock;
 use std::sync::Wait;
 use std::test::Fail;
@@ -182,36 +182,83 @@ where
     Q::Runtime: Wait,
 {
     let alone = answered(map, ALONE, moment, clock, me) == ALONE.len();
-    let writing = match map.get_mut(&1, you) {
-        Some(guard) => {
-            let rows = answered(map, BESIDE_A_WRITER, moment, clock, me);
-            drop(guard);
-            rows == BESIDE_A_WRITER.len()
-        }
-        None => false,
-    };
-    let reading = match map.get(&1, you) {
-        Some(guard) => {
-            let rows = answered(map, BESIDE_A_READER, moment, clock, me);
-            drop(guard);
-            rows == BESIDE_A_READER.len()
-        }
-        None => false,
-    };
+    let writing = answered_beside_a_writer(map, moment, clock, me, you) == BESIDE_A_WRITER.len();
+    let reading = answered_beside_a_reader(map, moment, clock, me, you) == BESIDE_A_READER.len();
     let after = answered(map, AFTERWARDS, moment, clock, me) == AFTERWARDS.len();
     alone & writing & reading & after
+}
+
+/// How many rows are answered while the other party writes at key 1.
+fn answered_beside_a_writer<
+    Q: RawRwLockTimed<Instant = Instant> + Evidence<Shard<u64, u64, A>>,
+    A: Allocator + Clone,
+    C: Clock,
+>(
+    map: &Numbers<SpreadState, Q, A>,
+    moment: Instant,
+    clock: &C,
+    me: &mut Q::Party,
+    you: &mut Q::Party,
+) -> usize
+where
+    Q::Runtime: Wait,
+{
+    match map.get_mut(&1, you) {
+        Some(_guard) => answered(map, BESIDE_A_WRITER, moment, clock, me),
+        None => 0,
+    }
+}
+
+/// How many while it reads there.
+fn answered_beside_a_reader<
+    Q: RawRwLockTimed<Instant = Instant> + Evidence<Shard<u64, u64, A>>,
+    A: Allocator + Clone,
+    C: Clock,
+>(
+    map: &Numbers<SpreadState, Q, A>,
+    moment: Instant,
+    clock: &C,
+    me: &mut Q::Party,
+    you: &mut Q::Party,
+) -> usize
+where
+    Q::Runtime: Wait,
+{
+    match map.get(&1, you) {
+        Some(_guard) => answered(map, BESIDE_A_READER, moment, clock, me),
+        None => 0,
+    }
+}
+
+/// Whether they are on a new map over locks of one word.
+fn is_answered_by_spun<R: Wait + Clock + Copy + Drop>(
+    rt: R,
+    alloc: Global,
+    moment: Instant,
+) -> Result<bool, Fail> {
+    let map = map_of(rt, alloc, 2)?;
+    Ok(is_answered(&map, moment, &rt, &mut 1, &mut 2))
+}
+
+/// Whether they are on a new map over rows of a table, with two threads of its lot.
+fn is_answered_by_parked<R: Wait, C: Clock>(
+    alloc: Global,
+    table: &LockTable<'_, R>,
+    moment: Instant,
+    clock: &C,
+) -> Result<bool, Fail> {
+    let (mut me, mut you) = (table.lot().thread_data()?, table.lot().thread_data()?);
+    let map = parked(alloc, table, 2)?;
+    Ok(is_answered(&map, moment, clock, &mut me, &mut you))
 }
 
 #[test]
 fn a_call_gives_up_at_its_moment_beside_a_guard_of_its_shard(rt: HostRuntime) -> Result<(), Fail> {
     let moment = Instant::now(&rt)?;
-    let spun = map_of(rt, rt.alloc(), 2)?;
-    assert!(rt; is_answered(&spun, moment, &rt, &mut 1, &mut 2));
+    assert!(rt; is_answered_by_spun(rt, rt.alloc(), moment)?);
     let lot = ParkingLot::new(rt, rt.alloc(), 2, 7)?;
     let table = LockTable::new(rt.alloc(), &lot, 2)?;
-    let (mut me, mut you) = (lot.thread_data()?, lot.thread_data()?);
-    let map = parked(rt.alloc(), &table, 2)?;
-    assert!(rt; is_answered(&map, moment, &rt, &mut me, &mut you));
+    assert!(rt; is_answered_by_parked(rt.alloc(), &table, moment, &rt)?);
     Ok(())
 }
 

@@ -2,14 +2,15 @@
 
 use crate::views::{Fold, View, empty_shards, put, shard_of, view_if_routed, view_of};
 use dashmap_view::Displaced;
+use std::alloc::Global;
 use std::hash::BuildHasher;
 use std::test::Fail;
 
 #[test]
 fn a_hundred_keys_become_a_view_and_come_back(rt: HostRuntime) -> Result<(), Fail> {
     let view = view_of(rt.alloc(), 100)?;
-    let mut right = view.len() == 100;
-    right &= !view.is_empty() && view.capacity() >= 100 && view.shards().len() == 4;
+    let mut right = view.len() == 100 && view.shards().len() == 4;
+    right &= !view.is_empty() && view.capacity() >= 100;
     let (shards, _) = view.into_parts();
     let mut pairs = 0usize;
     for shard in &shards {
@@ -26,17 +27,21 @@ fn has(view: &View, key: u64) -> bool {
         && view.contains_key(&key)
 }
 
-#[test]
-fn a_view_finds_its_keys_alone(rt: HostRuntime) -> Result<(), Fail> {
-    let view = view_of(rt.alloc(), 100)?;
+/// Whether a view finds the keys below a hundred, and no others below two hundred.
+fn finds_a_hundred(view: &View) -> bool {
     let mut right = true;
     for key in 0..100 {
-        right &= has(&view, key);
+        right &= has(view, key);
     }
     for key in 100..200 {
         right &= view.get(&key).is_none() && !view.contains_key(&key);
     }
-    assert!(rt; right);
+    right
+}
+
+#[test]
+fn a_view_finds_its_keys_alone(rt: HostRuntime) -> Result<(), Fail> {
+    assert!(rt; finds_a_hundred(&view_of(rt.alloc(), 100)?));
     Ok(())
 }
 
@@ -60,21 +65,29 @@ fn a_view_of_no_pair_is_empty(rt: HostRuntime) -> Result<(), Fail> {
     Ok(())
 }
 
+/// Whether four shards make a view, one of which has key 7 under a hash.
+fn makes_view(alloc: Global, shard: usize, hash: u64) -> Result<bool, Fail> {
+    let mut shards = empty_shards(alloc, 4)?;
+    if !put(&mut shards, shard, hash, 7) {
+        return Err("key 7 isn't put in".into());
+    }
+    Ok(view_if_routed(shards).is_some())
+}
+
 #[test]
 fn a_pair_under_another_hash_or_in_another_shard_makes_no_view(
     rt: HostRuntime,
 ) -> Result<(), Fail> {
     let hash = Fold::new().hash_one(&7u64);
     let shard = shard_of(hash, 4);
-    let mut home = empty_shards(rt.alloc(), 4)?;
-    let mut right = put(&mut home, shard, hash, 7);
-    right &= view_if_routed(home).is_some();
-    let mut away = empty_shards(rt.alloc(), 4)?;
-    right &= put(&mut away, shard ^ 1, hash, 7);
-    right &= view_if_routed(away).is_none();
-    let mut misnamed = empty_shards(rt.alloc(), 4)?;
-    right &= put(&mut misnamed, shard, hash ^ 1, 7);
-    assert!(rt; right && view_if_routed(misnamed).is_none());
+    for (shard, hash, is_made) in [
+        (shard, hash, true),
+        (shard ^ 1, hash, false),
+        (shard, hash ^ 1, false),
+    ] {
+        let made = makes_view(rt.alloc(), shard, hash)?;
+        assert!(rt; made == is_made, "{shard} {hash}");
+    }
     Ok(())
 }
 

@@ -7,6 +7,7 @@ use std::alloc::Global;
 use std::hash::BuildHasher;
 use std::sync::atomic::{AtomicU64, Ordering};
 use std::test::Fail;
+use std::thread::Threads;
 
 /// The keys below `keys`, each with its double, key by key on the next of so many shards.
 fn shards_of(alloc: Global, amount: usize, keys: u64) -> Result<Plain, Fail> {
@@ -41,22 +42,63 @@ fn values_of(alloc: Global, shards: &[Shard<u64, u64>]) -> Result<Vec<u64>, Fail
 
 const AMOUNTS: [usize; 3] = [1, 2, 8];
 
+/// Whether shards that are lent answer in the order of one thread, which finds these values.
+fn lends_in_order<R: Threads + Sync>(
+    rt: &R,
+    alloc: Global,
+    shards: &[Shard<u64, u64>],
+    plain: &Vec<u64>,
+) -> Result<bool, Fail> {
+    let lent = Iter::new(shards).map_collect(rt, alloc, |_: &u64, value: &u64| *value)?;
+    Ok(lent == *plain)
+}
+
+/// Whether shards that are given up do.
+fn gives_in_order<R: Threads + Sync>(
+    rt: &R,
+    alloc: Global,
+    shards: Plain,
+    plain: &Vec<u64>,
+) -> Result<bool, Fail> {
+    let given = OwningIter::new(shards).map_collect(rt, alloc, |_: u64, value: u64| value)?;
+    Ok(given == *plain)
+}
+
+/// Whether so many shards do in both ways.
+fn answers_in_order<R: Threads + Sync>(rt: &R, alloc: Global, amount: usize) -> Result<bool, Fail> {
+    let shards = shards_of(alloc, amount, 100)?;
+    let plain = values_of(alloc, &shards)?;
+    let right = lends_in_order(rt, alloc, &shards, &plain)?;
+    Ok(right & (plain.len() == 100) & gives_in_order(rt, alloc, shards, &plain)?)
+}
+
 #[test]
 fn answers_come_in_the_order_of_one_thread(rt: HostRuntime) -> Result<(), Fail> {
-    let mut right = true;
     for amount in AMOUNTS {
-        let shards = shards_of(rt.alloc(), amount, 100)?;
-        let plain = values_of(rt.alloc(), &shards)?;
-        let lent = Iter::new(&shards).map_collect(&rt, rt.alloc(), |_: &u64, value: &u64| *value)?;
-        let given = OwningIter::new(shards).map_collect(
-            &rt,
-            rt.alloc(),
-            |_: u64, value: u64| value,
-        )?;
-        right &= plain.len() == 100 && lent == plain && given == plain;
+        let right = answers_in_order(&rt, rt.alloc(), amount)?;
+        assert!(rt; right, "{amount} shards");
     }
-    assert!(rt; right);
     Ok(())
+}
+
+/// How many pairs of shards that are lent are visited, and what their keys and values add up to.
+fn visits_of_lent<R: Threads + Sync>(rt: &R, shards: &[Shard<u64, u64>]) -> (u64, u64) {
+    let (visits, sum) = (AtomicU64::new(0), AtomicU64::new(0));
+    Iter::new(shards).for_each(rt, |key: &u64, value: &u64| {
+        visits.fetch_add(1, Ordering::SeqCst);
+        sum.fetch_add(key.wrapping_add(*value), Ordering::SeqCst);
+    });
+    (visits.load(Ordering::SeqCst), sum.load(Ordering::SeqCst))
+}
+
+/// The same of shards that are given up.
+fn visits_of_given<R: Threads + Sync>(rt: &R, shards: Plain) -> (u64, u64) {
+    let (visits, sum) = (AtomicU64::new(0), AtomicU64::new(0));
+    OwningIter::new(shards).for_each(rt, |key: u64, value: u64| {
+        visits.fetch_add(1, Ordering::SeqCst);
+        sum.fetch_add(key.wrapping_add(value), Ordering::SeqCst);
+    });
+    (visits.load(Ordering::SeqCst), sum.load(Ordering::SeqCst))
 }
 
 #[test]
@@ -64,21 +106,28 @@ fn each_pair_is_visited_once(rt: HostRuntime) -> Result<(), Fail> {
     let mut right = true;
     for amount in AMOUNTS {
         let shards = shards_of(rt.alloc(), amount, 100)?;
-        let visits = AtomicU64::new(0);
-        let sum = AtomicU64::new(0);
-        Iter::new(&shards).for_each(&rt, |key: &u64, value: &u64| {
-            visits.fetch_add(1, Ordering::SeqCst);
-            sum.fetch_add(key.wrapping_add(*value), Ordering::SeqCst);
-        });
-        right &= visits.load(Ordering::SeqCst) == 100 && sum.load(Ordering::SeqCst) == 14_850;
-        OwningIter::new(shards).for_each(&rt, |key: u64, value: u64| {
-            visits.fetch_add(1, Ordering::SeqCst);
-            sum.fetch_add(key.wrapping_add(value), Ordering::SeqCst);
-        });
-        right &= visits.load(Ordering::SeqCst) == 200 && sum.load(Ordering::SeqCst) == 29_700;
+        right &= visits_of_lent(&rt, &shards) == (100, 14_850);
+        right &= visits_of_given(&rt, shards) == (100, 14_850);
     }
     assert!(rt; right);
     Ok(())
+}
+
+/// Writes each value anew: the old one, three times the key, and 1.
+fn write<R: Threads + Sync>(rt: &R, shards: &mut Plain) {
+    par_write(rt, shards, |key: &u64, value: &mut u64| {
+        *value = value.wrapping_add(key.wrapping_mul(3)).wrapping_add(1);
+    });
+}
+
+/// Whether values are so, which were twice their keys before.
+fn are_written(before: &[u64], after: &[u64]) -> bool {
+    let mut right = after.len() == 100;
+    for (old, new) in before.iter().zip(after.iter()) {
+        let key = *old / 2;
+        right &= *new == old.wrapping_add(key.wrapping_mul(3)).wrapping_add(1);
+    }
+    right
 }
 
 #[test]
@@ -87,15 +136,8 @@ fn each_value_is_written_once(rt: HostRuntime) -> Result<(), Fail> {
     for amount in AMOUNTS {
         let mut shards = shards_of(rt.alloc(), amount, 100)?;
         let before = values_of(rt.alloc(), &shards)?;
-        par_write(&rt, &mut shards, |key: &u64, value: &mut u64| {
-            *value = value.wrapping_add(key.wrapping_mul(3)).wrapping_add(1);
-        });
-        let after = values_of(rt.alloc(), &shards)?;
-        right &= after.len() == 100;
-        for (old, new) in before.iter().zip(after.iter()) {
-            let key = *old / 2;
-            right &= *new == old.wrapping_add(key.wrapping_mul(3)).wrapping_add(1);
-        }
+        write(&rt, &mut shards);
+        right &= are_written(&before, &values_of(rt.alloc(), &shards)?);
     }
     assert!(rt; right);
     Ok(())

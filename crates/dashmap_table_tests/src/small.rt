@@ -3,20 +3,25 @@
 use dashmap_guard::{SharedValue, TryResult, map_in_place_2, ptr_size_bits};
 use std::test::Fail;
 
+/// What a try found, by each question: whether it is present, absent or locked, and then its value.
+fn told(found: TryResult<u64>) -> ([bool; 3], Option<u64>) {
+    let answers = [found.is_present(), found.is_absent(), found.is_locked()];
+    (answers, found.try_unwrap())
+}
+
 #[test]
-fn a_try_tells_what_it_found(rt: HostRuntime) -> Result<(), Fail> {
-    let present: TryResult<u64> = TryResult::Present(5);
-    let absent: TryResult<u64> = TryResult::Absent;
-    let locked: TryResult<u64> = TryResult::Locked;
-    assert!(rt; present.is_present() & !present.is_absent() & !present.is_locked());
-    assert!(rt; absent.is_absent() & !absent.is_present() & !absent.is_locked());
-    assert!(rt; locked.is_locked() & !locked.is_present() & !locked.is_absent());
-    let told = format!(in rt.alloc(); "{present:?} {absent:?} {locked:?}")?;
+fn a_try_tells_what_it_found(rt: HostRuntime) {
+    let mut right = told(TryResult::Present(5)) == ([true, false, false], Some(5));
+    right &= told(TryResult::Absent) == ([false, true, false], None);
+    right &= told(TryResult::Locked) == ([false, false, true], None);
+    assert!(rt; right & (TryResult::Present(7u64).unwrap() == 7));
+}
+
+#[test]
+fn what_a_try_found_is_shown(rt: HostRuntime) -> Result<(), Fail> {
+    let (absent, locked): (TryResult<u64>, TryResult<u64>) = (TryResult::Absent, TryResult::Locked);
+    let told = format!(in rt.alloc(); "{:?} {absent:?} {locked:?}", TryResult::Present(5u64))?;
     assert!(rt; told.as_str() == "Present(5) Absent Locked");
-    assert!(rt; present.try_unwrap() == Some(5));
-    assert!(rt; absent.try_unwrap().is_none());
-    assert!(rt; locked.try_unwrap().is_none());
-    assert!(rt; TryResult::Present(7u64).unwrap() == 7);
     Ok(())
 }
 

@@ -3,7 +3,7 @@
 
 use lock_api::{Guard, Mapped};
 use lock_api_guards::{Hold, Lender, LenderMut};
-use lock_api_raw::{GetThreadId as _, MakeLock as _};
+use lock_api_raw::{GetThreadId as _, MakeLock as _, TableFull};
 use parking_lot::{
     Condvar, FairMutex, FairMutexGuard, First, LockTable, MappedFairMutexGuard, MappedMutexGuard,
     MappedRecursiveRwLockReadGuard, MappedRecursiveRwLockWriteGuard, MappedReentrantMutexGuard,
@@ -190,36 +190,56 @@ fn is_recursive_read_and_written<R: Wait>(
     changed & are_read & !lock.is_locked() & (lock.into_inner() == (5, 2))
 }
 
+/// A reentrant mutex is taken twice and given up.
+fn is_taken_and_given_up<R: Wait>(
+    mutex: ReentrantMutex<'_, '_, Two, R>,
+    me: &mut ThreadData,
+) -> bool {
+    is_taken_twice(&mutex, me) & (mutex.into_inner() == (1, 2))
+}
+
+/// Whether each mutex is taken and given back, on a row of its own.
+fn are_mutexes_taken<R: Wait>(
+    rows: &LockTable<'_, R>,
+    me: &mut ThreadData,
+) -> Result<[bool; 3], TableFull> {
+    let plain = is_mutex_taken(Mutex::new(rows, (1, 2))?, me);
+    let fair = is_fair_mutex_taken(FairMutex::new(rows, (1, 2))?, me);
+    let nested = is_taken_and_given_up(ReentrantMutex::new(rows, 2, (1, 2))?, me);
+    Ok([plain, fair, nested])
+}
+
+/// Whether each reader-writer lock is, on the rows behind those.
+fn are_locks_taken<R: Wait>(
+    rows: &LockTable<'_, R>,
+    me: &mut ThreadData,
+) -> Result<[bool; 2], TableFull> {
+    let plain = is_read_and_written(RwLock::new(rows, 4, (1, 2))?, rows, 3, me);
+    let lock = RecursiveRwLock::new(rows, 4, (1, 2))?;
+    Ok([plain, is_recursive_read_and_written(lock, rows, 4, me)])
+}
+
+/// How many of the first words of a table are 0, up to the first that isn't.
+fn free_rows<R>(table: &LockTable<'_, R>, rows: usize) -> usize {
+    for row in 0..rows {
+        if table.word(row) != Some(0) {
+            return row;
+        }
+    }
+    rows
+}
+
 #[test]
 fn locks_are_taken_and_given_back(rt: HostRuntime) -> Result<(), Fail> {
     let lot = ParkingLot::new(rt, rt.alloc(), 1, 7)?;
     let mut me = lot.thread_data()?;
     let table = LockTable::new(rt.alloc(), &lot, 5)?;
-    let rows = &table;
-    assert!(rt;
-        is_mutex_taken(Mutex::new(rows, (1, 2))?, &mut me),
-        "the mutex"
-    );
-    assert!(rt;
-        is_fair_mutex_taken(FairMutex::new(rows, (1, 2))?, &mut me),
-        "the fair mutex"
-    );
-    let lock = RwLock::new(rows, 4, (1, 2))?;
-    assert!(rt; is_read_and_written(lock, rows, 2, &mut me), "the lock");
-    let lock = RecursiveRwLock::new(rows, 4, (1, 2))?;
-    assert!(rt;
-        is_recursive_read_and_written(lock, rows, 3, &mut me),
-        "the recursive lock"
-    );
-    let nested = ReentrantMutex::new(rows, 2, (1, 2))?;
-    assert!(rt; is_taken_twice(&nested, &mut me), "the reentrant mutex");
-    assert!(rt;
-        nested.into_inner() == (1, 2),
-        "the reentrant mutex in the end"
-    );
-    for row in 0..5 {
-        assert!(rt; table.word(row) == Some(0), "row {row}");
-    }
+    let mutexes = are_mutexes_taken(&table, &mut me)?;
+    assert!(rt; mutexes == [true; 3], "plain, fair, reentrant: {mutexes:?}");
+    let locks = are_locks_taken(&table, &mut me)?;
+    assert!(rt; locks == [true; 2], "plain, recursive: {locks:?}");
+    let row = free_rows(&table, 5);
+    assert!(rt; row == 5, "row {row}");
     Ok(())
 }
 
@@ -270,34 +290,60 @@ fn fails<R: Wait>(
     (ended, once.wait(me))
 }
 
+/// Whether raw mutexes are taken, on a row of its own each.
+fn are_raw_mutexes_taken<R: Wait>(
+    rows: &LockTable<'_, R>,
+    me: &mut ThreadData,
+) -> Result<bool, TableFull> {
+    let plain: RawMutex<'_, '_, R> = RawMutex::new(rows, 1)?;
+    let fair: RawFairMutex<'_, '_, R> = RawFairMutex::new(rows, 1)?;
+    Ok(is_taken(&plain, me) & is_taken(&fair, me))
+}
+
+/// Whether raw reader-writer locks are.
+fn are_raw_locks_taken<R: Wait>(
+    rows: &LockTable<'_, R>,
+    me: &mut ThreadData,
+) -> Result<bool, TableFull> {
+    let plain: RawRwLock<'_, '_, R, 0> = RawRwLock::new(rows, 1)?;
+    let recursive: RawRwLockRecursive<'_, '_, R> = RawRwLockRecursive::new(rows, 1)?;
+    Ok(is_taken_by_each(&plain, me) & is_taken_by_each(&recursive, me))
+}
+
+/// Whether a wait that nobody ends runs out, and nobody is notified behind it.
+fn runs_out<R: Wait, C: Clock>(
+    clock: &C,
+    rows: &LockTable<'_, R>,
+    me: &mut ThreadData,
+) -> Result<bool, TableFull> {
+    let condvar: Condvar<'_, '_, R> = Condvar::new(rows)?;
+    let mutex: Mutex<'_, '_, u64, R> = Mutex::new(rows, 0)?;
+    let ran_out = match waits(clock, &condvar, &mutex, me) {
+        Some(result) => result.timed_out(),
+        None => false,
+    };
+    Ok(ran_out & !condvar.notify_one() & !mutex.is_locked())
+}
+
+/// Whether a once fails, is poisoned then, and is run by a forced call.
+fn fails_and_is_run<R: Wait>(once: &Once<'_, '_, R>, me: &mut ThreadData) -> bool {
+    let (ended, waited) = fails(once, me);
+    let has_failed = matches!(ended, Err(OnceFault::Failed(5))) & (waited == Err(Poisoned));
+    let is_poisoned = once.state() == OnceState::Poisoned;
+    let is_run = once.call_once_force(me, |_before| Ok::<(), u8>(())).is_ok();
+    has_failed & is_poisoned & is_run & (once.state() == OnceState::Done)
+}
+
 #[test]
 fn raw_locks_are_taken_and_what_stands_beside_them(rt: HostRuntime) -> Result<(), Fail> {
     let lot = ParkingLot::new(rt, rt.alloc(), 1, 7)?;
     let mut me = lot.thread_data()?;
     let table = LockTable::new(rt.alloc(), &lot, 7)?;
-    let rows = &table;
     let ids: RawThreadId = RawThreadId::new();
     assert!(rt; ids.nonzero_thread_id(&me).get() == 1);
-    let plain: RawMutex<HostRuntime> = RawMutex::new(rows, 1)?;
-    let fair: RawFairMutex<HostRuntime> = RawFairMutex::new(rows, 1)?;
-    assert!(rt; is_taken(&plain, &mut me) & is_taken(&fair, &mut me));
-    let lock: RawRwLock<HostRuntime, 0> = RawRwLock::new(rows, 1)?;
-    let recursive: RawRwLockRecursive<HostRuntime> = RawRwLockRecursive::new(rows, 1)?;
-    assert!(rt; is_taken_by_each(&lock, &mut me) & is_taken_by_each(&recursive, &mut me));
-    let condvar: Condvar<HostRuntime> = Condvar::new(rows)?;
-    let mutex: Mutex<u64, HostRuntime> = Mutex::new(rows, 0)?;
-    let ran_out = match waits(&rt, &condvar, &mutex, &mut me) {
-        Some(result) => result.timed_out(),
-        None => false,
-    };
-    assert!(rt; ran_out & !condvar.notify_one() & !mutex.is_locked());
-    let once: Once<HostRuntime> = Once::new(rows)?;
-    let (ended, waited) = fails(&once, &mut me);
-    let has_failed = matches!(ended, Err(OnceFault::Failed(5))) & (waited == Err(Poisoned));
-    let is_poisoned = once.state() == OnceState::Poisoned;
-    let is_run = once
-        .call_once_force(&mut me, |_before| Ok::<(), u8>(()))
-        .is_ok();
-    assert!(rt; has_failed & is_poisoned & is_run & (once.state() == OnceState::Done));
+    let are_taken = are_raw_mutexes_taken(&table, &mut me)?;
+    assert!(rt; are_taken & are_raw_locks_taken(&table, &mut me)?);
+    assert!(rt; runs_out(&rt, &table, &mut me)?);
+    assert!(rt; fails_and_is_run(&Once::new(&table)?, &mut me));
     Ok(())
 }

@@ -3,10 +3,12 @@
 use parking_lot_core::ParkingLot;
 use parking_lot_driver::LockTable;
 use parking_lot_mutex::once::Once;
+use std::alloc::Global;
 use std::sync::Wait;
 use std::sync::atomic::{AtomicU64, Ordering};
 use std::test::Fail;
 use std::thread;
+use std::thread::Threads;
 
 /// How many things are initialized, each by four threads.
 const THINGS: usize = 2_500;
@@ -28,18 +30,35 @@ fn comes<R: Wait>(table: &LockTable<'_, R>, things: &[(Once<'_, '_, R>, AtomicU6
     ok
 }
 
+/// Things that aren't initialized, with a count of the closures that have run there.
+fn things_on<'t, 'l, R: Wait>(
+    alloc: Global,
+    table: &'t LockTable<'l, R>,
+) -> Result<Vec<(Once<'t, 'l, R>, AtomicU64)>, Fail> {
+    let mut things = Vec::new(alloc);
+    for _thing in 0..THINGS {
+        things.push((Once::new(table)?, AtomicU64::new(0)))?;
+    }
+    Ok(things)
+}
+
+/// Has four threads call at each thing, and answers whether one closure had run there by the end of each call.
+fn four_come<R: Wait + Threads + Sync>(
+    rt: &R,
+    table: &LockTable<'_, R>,
+    things: &[(Once<'_, '_, R>, AtomicU64)],
+) -> bool {
+    let two = || thread::join(rt, || comes(table, things), || comes(table, things));
+    thread::join(rt, two, two) == ((true, true), (true, true))
+}
+
 #[test]
 fn of_four_threads_one_runs_its_closure(rt: HostRuntime) -> Result<(), Fail> {
     let lot = ParkingLot::new(rt, rt.alloc(), 4, 7)?;
     let table = LockTable::new(rt.alloc(), &lot, THINGS)?;
-    let mut things = Vec::new(rt.alloc());
-    for _thing in 0..THINGS {
-        things.push((Once::new(&table)?, AtomicU64::new(0)))?;
-    }
-    let two = || thread::join(&rt, || comes(&table, &things), || comes(&table, &things));
-    let ended = thread::join(&rt, two, two) == ((true, true), (true, true));
-    let is_over = things.iter().all(|thing| thing.0.is_completed());
-    assert!(rt; ended & is_over);
+    let things = things_on(rt.alloc(), &table)?;
+    assert!(rt; four_come(&rt, &table, &things));
+    assert!(rt; things.iter().all(|thing| thing.0.is_completed()));
     Ok(())
 }
 
@@ -66,25 +85,34 @@ fn goes_through<R: Wait>(
     well
 }
 
+/// Has four threads force calls at each thing, and answers how many of the calls have ended well.
+fn four_go_through<R: Wait + Threads + Sync>(
+    rt: &R,
+    table: &LockTable<'_, R>,
+    things: &[(Once<'_, '_, R>, AtomicU64)],
+) -> usize {
+    let two = || thread::join(
+        rt,
+        || goes_through(table, things),
+        || goes_through(table, things),
+    );
+    let ((a, b), (c, d)) = thread::join(rt, two, two);
+    a.wrapping_add(b).wrapping_add(c).wrapping_add(d)
+}
+
+/// Whether each thing is initialized, and three closures have run there.
+fn are_over<R: Wait>(things: &[(Once<'_, '_, R>, AtomicU64)]) -> bool {
+    things.iter().all(|thing| thing.0.is_completed() & (thing.1.load(Ordering::SeqCst) == 3))
+}
+
 #[test]
 fn of_four_closures_two_fail_one_ends_well_and_one_is_left_out(
     rt: HostRuntime,
 ) -> Result<(), Fail> {
     let lot = ParkingLot::new(rt, rt.alloc(), 4, 7)?;
     let table = LockTable::new(rt.alloc(), &lot, THINGS)?;
-    let mut things = Vec::new(rt.alloc());
-    for _thing in 0..THINGS {
-        things.push((Once::new(&table)?, AtomicU64::new(0)))?;
-    }
-    let two = || thread::join(
-        &rt,
-        || goes_through(&table, &things),
-        || goes_through(&table, &things),
-    );
-    let ((a, b), (c, d)) = thread::join(&rt, two, two);
-    let well = a.wrapping_add(b).wrapping_add(c).wrapping_add(d);
-    let is_over = things.iter().all(|thing| thing.0.is_completed()
-        & (thing.1.load(Ordering::SeqCst) == 3));
-    assert!(rt; is_over & (well == 2 * THINGS));
+    let things = things_on(rt.alloc(), &table)?;
+    assert!(rt; four_go_through(&rt, &table, &things) == 2 * THINGS);
+    assert!(rt; are_over(&things));
     Ok(())
 }

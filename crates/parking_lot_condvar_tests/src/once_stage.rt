@@ -1,6 +1,8 @@
 //! Calls of a once as data: what a thread asks for stands beside what it is to be answered.
 
+use crate::stage::judge;
 use crate::words::has_come;
+use lock_api_raw::TableFull;
 use parking_lot_core::{ParkingLot, ThreadData};
 use parking_lot_driver::LockTable;
 use parking_lot_mutex::once::{Once, OnceFault, OnceState, Poisoned};
@@ -276,6 +278,18 @@ fn played<'s, 't, 'l, R: Wait + Threads + Clock + Sync>(
     follow_together(rt, own, others, &scene, lines)
 }
 
+/// A once that is made so.
+fn once_of<'t, 'l, R: Wait>(
+    table: &'t LockTable<'l, R>,
+    made: Made,
+) -> Result<Once<'t, 'l, R>, TableFull> {
+    match made {
+        Made::New => Once::new(table),
+        Made::ByDefault => Once::default(table),
+        Made::Completed => Once::new_completed(table),
+    }
+}
+
 /// Has two threads follow their lines at a new once, the second as a participant of a lot of that number.
 pub fn play<R: Wait + Threads + Clock + Abort + Sync + Copy + Drop>(
     rt: R,
@@ -288,20 +302,12 @@ pub fn play<R: Wait + Threads + Clock + Abort + Sync + Copy + Drop>(
     let own = ParkingLot::new(rt, alloc, 4, 7)?;
     let others = ParkingLot::new(rt, alloc, 4, number)?;
     let table = LockTable::new(alloc, &own, 1)?;
-    let once = match made {
-        Made::New => Once::new(&table)?,
-        Made::ByDefault => Once::default(&table)?,
-        Made::Completed => Once::new_completed(&table)?,
-    };
+    let once = once_of(&table, made)?;
     let ended = if number == 7 {
         played(&rt, &own, &own, &once, &table, lines)
     } else {
         played(&rt, &own, &others, &once, &table, lines)
     };
-    for (thread, line) in ended.iter().enumerate() {
-        if let Some(line) = line {
-            assert!(rt; false, "{name}: thread {thread}, line {line}");
-        }
-    }
+    judge(&rt, name, &ended);
     Ok(())
 }

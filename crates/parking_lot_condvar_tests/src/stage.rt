@@ -1,8 +1,8 @@
 //! Calls of a condition variable as data: what a thread asks for stands beside what it is to be answered.
 
-use crate::lots::{two_lots, two_tables};
+use crate::lots::{Lots, Tables, two_lots, two_tables};
 use crate::words::{are_counted, has_come};
-use lock_api::{Condvar, Mutex, MutexGuard, WaitFault, WaitTimeoutResult};
+use lock_api::{Condvar, Mutex, MutexGuard, TableFull, WaitFault, WaitTimeoutResult};
 use parking_lot_core::{ParkingLot, ThreadData};
 use parking_lot_mutex::condvar::RawCondvar;
 use parking_lot_mutex::{LockTable, RawMutex};
@@ -352,6 +352,55 @@ fn follow_together<R: Wait + Threads + Clock + Sync>(
     [one, two, three]
 }
 
+/// A scene over tables of which no row was handed out. Its later moment comes 50 seconds behind this one.
+fn scene_over<'t, 'l, R: Wait>(
+    tables: &'t Tables<'l, R>,
+    now: Instant,
+) -> Result<Scene<'t, 'l, R>, TableFull> {
+    Ok(Scene {
+        condvar: Condvar::new(&tables.one)?,
+        first: Mutex::new(&tables.one, 0)?,
+        second: Mutex::new(&tables.one, 0)?,
+        strange: Mutex::new(&tables.other, 0)?,
+        table: &tables.one,
+        about: AtomicU64::new(0),
+        back: AtomicU64::new(0),
+        past: now,
+        later: now.checked_add(Duration::from_secs(50)).unwrap_or(now),
+    })
+}
+
+/// Has three threads follow their lines over a new scene.
+fn played<'l, R: Wait + Threads + Clock + Sync>(
+    rt: &R,
+    lots: &'l Lots<R>,
+    tables: &Tables<'l, R>,
+    number: u64,
+    lines: [&[Line]; 3],
+) -> Result<[Option<usize>; 3], Fail> {
+    let scene = scene_over(tables, Instant::now(rt)?)?;
+    Ok(if number == 7 {
+        follow_together(rt, &lots.one, &lots.one, &scene, lines)
+    } else {
+        follow_together(rt, &lots.one, &lots.other, &scene, lines)
+    })
+}
+
+/// Whether all words are 0.
+fn are_free<R>(tables: &Tables<'_, R>) -> bool {
+    let are_own = (tables.one.word(0) == Some(0)) & (tables.one.word(1) == Some(0));
+    are_own & (tables.one.word(2) == Some(0)) & (tables.other.word(0) == Some(0))
+}
+
+/// Looks whether each line was answered as it must be.
+pub fn judge(rt: &impl Abort, name: &str, ended: &[Option<usize>]) {
+    for (thread, line) in ended.iter().enumerate() {
+        if let Some(line) = line {
+            assert!(rt; false, "{name}: thread {thread}, line {line}");
+        }
+    }
+}
+
 /// Has three threads follow their lines at a new condition variable, the third as a participant of a lot of that
 /// number. All words must be 0 in the end.
 pub fn play<R: Wait + Threads + Clock + Abort + Sync + Copy + Drop>(
@@ -362,33 +411,8 @@ pub fn play<R: Wait + Threads + Clock + Abort + Sync + Copy + Drop>(
     lines: [&[Line]; 3],
 ) -> Result<(), Fail> {
     let lots = two_lots(rt, alloc)?;
-    let lots = &lots;
-    let tables = two_tables(alloc, lots)?;
-    let tables = &tables;
-    let now = Instant::now(&rt)?;
-    let scene = Scene {
-        condvar: Condvar::new(&tables.one)?,
-        first: Mutex::new(&tables.one, 0)?,
-        second: Mutex::new(&tables.one, 0)?,
-        strange: Mutex::new(&tables.other, 0)?,
-        table: &tables.one,
-        about: AtomicU64::new(0),
-        back: AtomicU64::new(0),
-        past: now,
-        later: now.checked_add(Duration::from_secs(50)).unwrap_or(now),
-    };
-    let ended = if number == 7 {
-        follow_together(&rt, &lots.one, &lots.one, &scene, lines)
-    } else {
-        follow_together(&rt, &lots.one, &lots.other, &scene, lines)
-    };
-    for (thread, line) in ended.iter().enumerate() {
-        if let Some(line) = line {
-            assert!(rt; false, "{name}: thread {thread}, line {line}");
-        }
-    }
-    let are_free = (tables.one.word(0) == Some(0)) & (tables.one.word(1) == Some(0));
-    let are_others = (tables.one.word(2) == Some(0)) & (tables.other.word(0) == Some(0));
-    assert!(rt; are_free & are_others, "{name}: the words in the end");
+    let tables = two_tables(alloc, &lots)?;
+    judge(&rt, name, &played(&rt, &lots, &tables, number, lines)?);
+    assert!(rt; are_free(&tables), "{name}: the words in the end");
     Ok(())
 }

@@ -1,8 +1,11 @@
 //! Two callers at a map of two shards, and their notes doctored in each way.
 use crate::record::calls::Fold;
+use dashmap_record::history::GatherFault::{
+    NotInHistory, NotInLog, StampOrder, WrongHash, WrongReply, WrongShard,
+};
 use dashmap_record::history::{Call, CallReply, Entered, GatherFault, gather};
 use dashmap_table::{is_shard_amount, route};
-use std::alloc::{AllocError, Allocator};
+use std::alloc::{AllocError, Allocator, Global};
 use std::hash::BuildHasher;
 use std::test::Fail;
 
@@ -59,12 +62,12 @@ fn gathered<A: Allocator + Copy + Drop>(
     histories: [&[Entry]; 2],
     logs: [&[Entry]; 2],
 ) -> Result<Vec<Entry, A>, GatherFault> {
-    let histories = lists(alloc, histories)?;
-    let logs = lists(alloc, logs)?;
+    let histories = lists(alloc, &histories)?;
+    let logs = lists(alloc, &logs)?;
     gather(alloc, histories, logs, &Fold::new())
 }
 
-fn lists<A: Allocator + Copy>(alloc: A, parts: [&[Entry]; 2]) -> Result<Lists<A>, AllocError> {
+fn lists<A: Allocator + Copy>(alloc: A, parts: &[&[Entry]]) -> Result<Lists<A>, AllocError> {
     let mut all = Vec::new(alloc);
     for part in parts {
         let mut list = Vec::new(alloc);
@@ -89,36 +92,40 @@ fn nothing_at_all_is_an_empty_list(rt: HostRuntime) {
     assert!(rt; all.is_ok_and(|all| all.is_empty()));
 }
 
+/// Histories and logs, and what they are refused as.
+type Doctored<'e> = ([&'e [Entry]; 2], [&'e [Entry]; 2], GatherFault);
+
+/// How many of these are refused so, up to the first that isn't.
+fn refused(alloc: Global, rows: &[Doctored<'_>]) -> usize {
+    for (at, (histories, logs, fault)) in rows.iter().enumerate() {
+        if gathered(alloc, *histories, *logs).err() != Some(*fault) {
+            return at;
+        }
+    }
+    rows.len()
+}
+
 #[test]
 fn each_way_of_doctoring_has_its_name(rt: HostRuntime) {
     let (a, b, c) = (first(), second(), other());
-    let alloc = rt.alloc();
-    let stamps = gathered(alloc, [&[a, a], &[c]], [&[a, b], &[c]]);
-    assert!(rt; matches!(stamps, Err(GatherFault::StampOrder)));
-    let unlogged = gathered(alloc, [&[a, b], &[c]], [&[a], &[c]]);
-    assert!(rt; matches!(unlogged, Err(GatherFault::NotInLog)));
-    let stranger = Entered { caller: 7, ..c };
-    let strange = gathered(alloc, [&[a, b], &[stranger]], [&[a, b], &[c]]);
-    assert!(rt; matches!(strange, Err(GatherFault::NotInLog)));
-    let lost = gathered(alloc, [&[a], &[c]], [&[a, b], &[c]]);
-    assert!(rt; matches!(lost, Err(GatherFault::NotInHistory)));
-    let elsewhere = Entered { shard: 1, ..b };
-    let renumbered = gathered(alloc, [&[a, elsewhere], &[c]], [&[a, elsewhere], &[c]]);
-    assert!(rt; matches!(renumbered, Err(GatherFault::NotInHistory)));
-    let moved = gathered(alloc, [&[a], &[c, elsewhere]], [&[a, elsewhere], &[c]]);
-    assert!(rt; matches!(moved, Err(GatherFault::WrongShard)));
-    let unhashed = Entered {
-        hash: b.hash ^ 1,
-        ..b
-    };
-    let rehashed = gathered(alloc, [&[a, unhashed], &[c]], [&[a, unhashed], &[c]]);
-    assert!(rt; matches!(rehashed, Err(GatherFault::WrongHash)));
-    let invented = Entered {
-        reply: CallReply::Value(11),
-        ..b
-    };
-    let replied = gathered(alloc, [&[a, invented], &[c]], [&[a, invented], &[c]]);
-    assert!(rt; matches!(replied, Err(GatherFault::WrongReply)));
+    let (stranger, elsewhere) = (Entered { caller: 7, ..c }, Entered { shard: 1, ..b });
+    let (hash, reply) = (b.hash ^ 1, CallReply::Value(11));
+    let (one, both, other): (&[Entry], &[Entry], &[Entry]) = (&[a], &[a, b], &[c]);
+    let moved: &[Entry] = &[a, elsewhere];
+    let unhashed: &[Entry] = &[a, Entered { hash, ..b }];
+    let invented: &[Entry] = &[a, Entered { reply, ..b }];
+    let rows: [Doctored<'_>; 8] = [
+        ([&[a, a], other], [both, other], StampOrder),
+        ([both, other], [one, other], NotInLog),
+        ([both, &[stranger]], [both, other], NotInLog),
+        ([one, other], [both, other], NotInHistory),
+        ([moved, other], [moved, other], NotInHistory),
+        ([one, &[c, elsewhere]], [moved, other], WrongShard),
+        ([unhashed, other], [unhashed, other], WrongHash),
+        ([invented, other], [invented, other], WrongReply),
+    ];
+    let count = refused(rt.alloc(), &rows);
+    assert!(rt; count == 8, "row {count}");
 }
 
 #[test]
@@ -134,21 +141,20 @@ fn a_replacement_needs_the_value_that_was_seen(rt: HostRuntime) {
     assert!(rt; all.is_ok_and(|all| all.len() == 5));
 }
 
+/// What is gathered of three histories and of two logs, the first of which have these entries.
+fn gathered_of_three<A: Allocator + Copy + Drop>(
+    alloc: A,
+    entries: &[Entry],
+) -> Result<Vec<Entry, A>, GatherFault> {
+    let histories = lists(alloc, &[entries, &[], &[]])?;
+    let logs = lists(alloc, &[entries, &[]])?;
+    gather(alloc, histories, logs, &Fold::new())
+}
+
 #[test]
-fn three_histories_are_a_wrong_amount_where_there_is_an_entry(rt: HostRuntime) -> Result<(), Fail> {
-    let alloc = rt.alloc();
-    let mut histories = lists(alloc, [&[first()], &[]])?;
-    histories.push(Vec::new(alloc))?;
-    let some = gather(
-        alloc,
-        histories,
-        lists(alloc, [&[first()], &[]])?,
-        &Fold::new(),
-    );
-    assert!(rt; matches!(some, Err(GatherFault::WrongShard)));
-    let mut empty = lists(alloc, [&[], &[]])?;
-    empty.push(Vec::new(alloc))?;
-    let none = gather(alloc, empty, lists(alloc, [&[], &[]])?, &Fold::new());
+fn three_histories_are_a_wrong_amount_where_there_is_an_entry(rt: HostRuntime) {
+    let some = gathered_of_three(rt.alloc(), &[first()]).err();
+    assert!(rt; some == Some(WrongShard));
+    let none = gathered_of_three(rt.alloc(), &[]);
     assert!(rt; none.is_ok_and(|all| all.is_empty()));
-    Ok(())
 }

@@ -103,35 +103,50 @@ where
     thread::for_each_mut(rt, parts, CALLERS, &|_, part| calls(map, part, count));
 }
 
-/// The histories and logs of callers in threads that each made so many calls.
-fn recorded<R: Wait + Threads + Sync + Copy>(
-    rt: R,
+/// The logs of callers that were all answered.
+fn logs_of(alloc: Global, parts: Vec<Part, Global>) -> Result<Lists, Fail> {
+    let mut logs = Vec::new(alloc);
+    let mut are_answered = true;
+    for part in parts {
+        are_answered &= part.is_answered;
+        logs.push(part.caller.log())?;
+    }
+    if are_answered {
+        Ok(logs)
+    } else {
+        Err(Fail::from("a refused call"))
+    }
+}
+
+/// The histories and logs of callers at rows of a table, in threads that each make so many calls.
+fn recorded_on<R: Wait + Threads + Sync>(
+    rt: &R,
     alloc: Global,
+    table: &LockTable<'_, R, Global>,
     count: u64,
 ) -> Result<(Lists, Lists), Fail> {
-    let lot = ParkingLot::new(rt, alloc, 9, 7)?;
-    let threads = threads(&lot, alloc)?;
-    let table = LockTable::new(alloc, &lot, 8)?;
     let made: Result<(Shared<'_, '_, R>, _), MapFault> = Recorded::new(
         alloc,
         8,
         Fold::new(),
         CALLERS,
-        &table,
+        table,
     );
     let (map, callers) = made?;
-    let mut parts = parts(alloc, callers, threads)?;
-    call_all(&rt, &map, &mut parts, count);
-    let mut logs = Vec::new(alloc);
-    let mut are_answered = true;
-    for part in parts {
-        are_answered = are_answered & part.is_answered;
-        logs.push(part.caller.log())?;
-    }
-    if !are_answered {
-        return Err(Fail::from("a refused call"));
-    }
-    Ok((map.histories(), logs))
+    let mut parts = parts(alloc, callers, threads(table.lot(), alloc)?)?;
+    call_all(rt, &map, &mut parts, count);
+    Ok((map.histories(), logs_of(alloc, parts)?))
+}
+
+/// The histories and logs of callers in threads that each made so many calls.
+fn recorded<R: Wait + Threads + Sync + Copy + Drop>(
+    rt: R,
+    alloc: Global,
+    count: u64,
+) -> Result<(Lists, Lists), Fail> {
+    let lot = ParkingLot::new(rt, alloc, 9, 7)?;
+    let table = LockTable::new(alloc, &lot, 8)?;
+    recorded_on(&rt, alloc, &table, count)
 }
 
 #[test]
@@ -151,65 +166,90 @@ fn copied(alloc: Global, lists: &Lists) -> Result<Lists, AllocError> {
     Ok(all)
 }
 
+/// How notes are doctored.
+#[derive(Clone, Copy, Debug)]
+enum Doctoring {
+    /// Each copy of one entry has the stamp 0.
+    Stamp,
+    /// Or a caller that there isn't.
+    Caller,
+    Shard,
+    Hash,
+    Reply,
+    /// The histories stand in another order.
+    Histories,
+    /// A log lacks its last entry.
+    Log,
+}
+
+/// Changes an entry.
+fn change(entry: &mut Entry, doctoring: Doctoring) {
+    match doctoring {
+        Doctoring::Stamp => entry.stamp = 0,
+        Doctoring::Caller => entry.caller = CALLERS,
+        Doctoring::Shard => entry.shard = entry.shard ^ 1,
+        Doctoring::Hash => entry.hash = entry.hash ^ 1,
+        Doctoring::Reply => entry.reply = CallReply::Pair(1, 1),
+        Doctoring::Histories | Doctoring::Log => {}
+    }
+}
+
 /// Changes the entry with this caller and stamp, wherever it is.
-fn change<F: Fn(&mut Entry)>(lists: &mut Lists, found: &Entry, f: &F)
-    requires { F.IsAlwaysCallable f.now }
-{
+fn change_each(lists: &mut Lists, found: &Entry, doctoring: Doctoring) {
     for list in lists.iter_mut() {
         for entry in list.iter_mut() {
             if (entry.caller == found.caller) & (entry.stamp == found.stamp) {
-                f(entry);
+                change(entry, doctoring);
             }
         }
     }
 }
 
-/// What is gathered where each copy of one entry was changed alike.
-fn doctored<F: Fn(&mut Entry)>(
+/// Changes notes.
+fn doctor(histories: &mut Lists, logs: &mut Lists, found: &Entry, doctoring: Doctoring) {
+    change_each(histories, found, doctoring);
+    change_each(logs, found, doctoring);
+    match doctoring {
+        Doctoring::Histories => histories.reverse(),
+        Doctoring::Log => {
+            let _last = logs.get_mut(3).and_then(|log| log.pop());
+        }
+        _ => {}
+    }
+}
+
+/// As what copies of notes are refused that are doctored so.
+fn refused(
     alloc: Global,
     notes: &(Lists, Lists),
     found: &Entry,
-    f: F,
-) -> Result<Option<GatherFault>, AllocError>
-    requires { F.IsAlwaysCallable f }
-{
-    let (mut histories, mut logs) = (copied(alloc, &notes.0)?, copied(alloc, &notes.1)?);
-    change(&mut histories, found, &f);
-    change(&mut logs, found, &f);
+    doctoring: Doctoring,
+) -> Result<Option<GatherFault>, AllocError> {
+    let mut histories = copied(alloc, &notes.0)?;
+    let mut logs = copied(alloc, &notes.1)?;
+    doctor(&mut histories, &mut logs, found, doctoring);
     Ok(gather(alloc, histories, logs, &Fold::new()).err())
 }
 
+/// What is named when.
+const DOCTORED: [(Doctoring, GatherFault); 7] = [
+    (Doctoring::Stamp, GatherFault::StampOrder),
+    (Doctoring::Caller, GatherFault::NotInLog),
+    (Doctoring::Shard, GatherFault::NotInHistory),
+    (Doctoring::Hash, GatherFault::WrongHash),
+    (Doctoring::Reply, GatherFault::WrongReply),
+    (Doctoring::Histories, GatherFault::NotInHistory),
+    (Doctoring::Log, GatherFault::NotInLog),
+];
+
 #[test]
 fn what_is_doctored_is_named(rt: HostRuntime) -> Result<(), Fail> {
-    let alloc = rt.alloc();
     let notes = recorded(rt, rt.alloc(), 500)?;
-    let found = *notes
-        .1
-        .get(3)
-        .and_then(|log| log.get(250))
-        .ok_or("no entry")?;
-    let level = doctored(alloc, &notes, &found, |entry| entry.stamp = 0)?;
-    assert!(rt; level == Some(GatherFault::StampOrder));
-    let strange = doctored(alloc, &notes, &found, |entry| entry.caller = CALLERS)?;
-    assert!(rt; strange == Some(GatherFault::NotInLog));
-    let moved = doctored(alloc, &notes, &found, |entry| entry.shard = entry.shard ^ 1)?;
-    assert!(rt; moved == Some(GatherFault::NotInHistory));
-    let hashed = doctored(alloc, &notes, &found, |entry| entry.hash = entry.hash ^ 1)?;
-    assert!(rt; hashed == Some(GatherFault::WrongHash));
-    let replied = doctored(
-        alloc,
-        &notes,
-        &found,
-        |entry| entry.reply = CallReply::Pair(1, 1),
-    )?;
-    assert!(rt; replied == Some(GatherFault::WrongReply));
-    let (mut histories, logs) = (copied(alloc, &notes.0)?, copied(alloc, &notes.1)?);
-    histories.reverse();
-    let swapped = gather(rt.alloc(), histories, logs, &Fold::new()).err();
-    assert!(rt; swapped == Some(GatherFault::NotInHistory));
-    let (histories, mut logs) = (copied(alloc, &notes.0)?, copied(alloc, &notes.1)?);
-    let lost = logs.get_mut(3).and_then(|log| log.pop());
-    let dropped = gather(rt.alloc(), histories, logs, &Fold::new()).err();
-    assert!(rt; lost.is_some() & (dropped == Some(GatherFault::NotInLog)));
+    let log = notes.1.get(3).ok_or("no log")?;
+    let found = *log.get(250).ok_or("no entry")?;
+    for (doctoring, fault) in DOCTORED {
+        let named = refused(rt.alloc(), &notes, &found, doctoring)?;
+        assert!(rt; named == Some(fault), "{doctoring:?}: {named:?}");
+    }
     Ok(())
 }

@@ -11,18 +11,19 @@ fn stamps_go_on_above_both(rt: HostRuntime) {
     assert!(rt; next_stamp(0, u64::MAX).is_none());
 }
 
+const FAULTS: [(GatherFault, u16, &str); 7] = [
+    (GatherFault::StampOrder, 42, "StampOrder"),
+    (GatherFault::NotInLog, 43, "NotInLog"),
+    (GatherFault::NotInHistory, 44, "NotInHistory"),
+    (GatherFault::WrongShard, 45, "WrongShard"),
+    (GatherFault::WrongHash, 46, "WrongHash"),
+    (GatherFault::WrongReply, 47, "WrongReply"),
+    (GatherFault::NoMemory, 99, "NoMemory"),
+];
+
 #[test]
 fn faults_have_numbers_and_names(rt: HostRuntime) -> Result<(), Fail> {
-    let faults = [
-        (GatherFault::StampOrder, 42, "StampOrder"),
-        (GatherFault::NotInLog, 43, "NotInLog"),
-        (GatherFault::NotInHistory, 44, "NotInHistory"),
-        (GatherFault::WrongShard, 45, "WrongShard"),
-        (GatherFault::WrongHash, 46, "WrongHash"),
-        (GatherFault::WrongReply, 47, "WrongReply"),
-        (GatherFault::NoMemory, 99, "NoMemory"),
-    ];
-    for (fault, code, name) in faults {
+    for (fault, code, name) in FAULTS {
         assert!(rt; fault.code() == code, "{name}");
         let text = format!(in rt.alloc(); "{fault}")?;
         assert!(rt; text.as_str() == name, "{name}");
