@@ -7,6 +7,7 @@ use parking_lot_mutex::{LockTable, RawMutex};
 use std::sync::Wait;
 use std::test::Fail;
 use std::thread;
+use std::thread::Threads;
 
 /// How often each thread hands something over, or takes it.
 const ROUNDS: u32 = 25_000;
@@ -59,13 +60,18 @@ fn turns<'t, 'l, R: Wait>(shared: &Shared<'t, 'l, R>, gives: bool) -> u64 {
     done
 }
 
+/// Has two threads give and two take, and answers whether each did so every time.
+fn four_take_turns<R: Wait + Threads + Sync>(rt: &R, shared: &Shared<'_, '_, R>) -> bool {
+    let two = || thread::join(rt, || turns(shared, true), || turns(shared, false));
+    thread::join(rt, two, two) == ((25_000, 25_000), (25_000, 25_000))
+}
+
 #[test]
 fn no_notification_is_lost(rt: HostRuntime) -> Result<(), Fail> {
     let lot = ParkingLot::new(rt, rt.alloc(), 4, 7)?;
     let table = LockTable::new(rt.alloc(), &lot, 3)?;
     let shared = Shared::on(&table)?;
-    let two = || thread::join(&rt, || turns(&shared, true), || turns(&shared, false));
-    let done = thread::join(&rt, two, two) == ((25_000, 25_000), (25_000, 25_000));
+    let done = four_take_turns(&rt, &shared);
     let are_free = (table.word(0) == Some(0)) & (table.word(1) == Some(0));
     assert!(rt; done & are_free & (table.word(2) == Some(0)));
     Ok(())

@@ -11,6 +11,7 @@ use std::sync::Wait;
 use std::sync::atomic::{AtomicU64, Ordering};
 use std::test::Fail;
 use std::thread;
+use std::thread::Threads;
 use std::time::{Clock, Duration};
 
 /// A map of numbers over rows of a table.
@@ -62,6 +63,22 @@ fn inserts<R: Wait + Clock>(
     is_held & (old == Ok(None))
 }
 
+/// One thread holds shard 0 while the other inserts on shard 1. Answers what each tells.
+fn both<R: Wait + Threads + Clock + Sync>(
+    rt: &R,
+    map: &Shared<'_, '_, R>,
+    caller: &mut Caller<u64, u64>,
+    one: &mut ThreadData,
+    two: &mut ThreadData,
+) -> (bool, bool) {
+    let flag = AtomicU64::new(0);
+    thread::join(
+        rt,
+        || holds(rt, map, &flag, one),
+        || inserts(rt, map, &flag, caller, two),
+    )
+}
+
 #[test]
 fn a_held_shard_keeps_no_other_shard_waiting(rt: HostRuntime) -> Result<(), Fail> {
     let lot = ParkingLot::new(rt, rt.alloc(), 3, 7)?;
@@ -76,12 +93,7 @@ fn a_held_shard_keeps_no_other_shard_waiting(rt: HostRuntime) -> Result<(), Fail
     let (map, mut callers) = made?;
     let mut caller = callers.pop().ok_or("no caller")?;
     let (mut one, mut two) = (lot.thread_data()?, lot.thread_data()?);
-    let flag = AtomicU64::new(0);
-    let ended = thread::join(
-        &rt,
-        || holds(&rt, &map, &flag, &mut one),
-        || inserts(&rt, &map, &flag, &mut caller, &mut two),
-    );
+    let ended = both(&rt, &map, &mut caller, &mut one, &mut two);
     assert!(rt; ended == (true, true));
     Ok(())
 }

@@ -1,0 +1,10 @@
+use Rattle.std.proofs.Common.{◌∙◌, sym}
+use Rattle.parking_lot_core.specs.Waits.{items}
+use Rattle.parking_lot_core.proofs.Lists.{one_joins}
+use Rattle.parking_lot_core.proofs.line.Line.join.Goals as goal
+
+pub returns-in-Some-clause-joined : goal.returns-in-Some-clause-joined
+returns-in-Some-clause-joined g c = λ _.
+    one_joins (items c.args.self.now.front) (items c.args.self.now.back) (items c.args.mine.now) (items c.name.new.self)
+    (items c.move_first.new.to) c.in-Some.field-0 c.args.waiting (sym c.head.ensures ∙ c.in-Some.is) c.name.ensures
+    c.move_first.ensures.to
