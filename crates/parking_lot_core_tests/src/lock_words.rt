@@ -3,6 +3,7 @@
 ghost use Rattle.std.specs.Prelude.{◌≡◌};
 
 use lock_word::{HandoffWord, Owner};
+use std::process::Abort;
 use std::sync::Wait;
 use std::sync::atomic::{AtomicU64, Ordering};
 use std::test::Fail;
@@ -24,29 +25,26 @@ fn own<R: Wait>(rt: &R, lock: &HandoffWord) -> Owner
     unreachable!()
 }
 
-/// Gives it up, or hands it over with bit 0 set throughout.
-fn give_up<R: Wait>(rt: &R, lock: &HandoffWord, owner: Owner, by_hand: bool)
+/// Gives it up, or hands it over with bit 0 set throughout. It stops the program where another bit has changed.
+fn give_up<R: Abort>(rt: &R, lock: &HandoffWord, owner: Owner, by_hand: bool)
     requires { owner ≡ lock.now.word }
 {
-    let mut kept = owner;
-    for _ in rt.forever() {
-        if by_hand {
-            match lock.leave(kept) {
-                Ok(()) => return,
-                Err(owner) => kept = owner,
-            }
-        } else {
-            match lock.word().release(kept, 1, 0) {
-                Ok(()) => return,
-                Err((owner, _word)) => kept = owner,
-            }
+    let given = if by_hand {
+        lock.leave(owner)
+    } else {
+        match lock.word().release(owner, 1, 0) {
+            Ok(()) => Ok(()),
+            Err((owner, _word)) => Err(owner),
         }
+    };
+    match given {
+        Ok(()) => {}
+        Err(_owner) => panic!(rt; "another bit has changed"),
     }
-    unreachable!()
 }
 
 /// Owns the lock so many times, every third time handing it over, and answers how often somebody else was inside.
-fn rounds<R: Wait>(rt: &R, lock: &HandoffWord, inside: &AtomicU64, count: u64) -> u64 {
+fn rounds<R: Wait + Abort>(rt: &R, lock: &HandoffWord, inside: &AtomicU64, count: u64) -> u64 {
     let mut seen = 0u64;
     for round in 0..count {
         let owner = own(rt, lock);
