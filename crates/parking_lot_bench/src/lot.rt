@@ -17,6 +17,9 @@ const LEFT: usize = 0;
 
 const RIGHT: usize = 1;
 
+/// How many pairs hand turns to and fro at one time.
+const PAIRS: usize = 4;
+
 /// Hands the turn to and fro both ways, so many times each, and answers whose turn it is at the end.
 pub fn both_ways<R: Wait + Threads + Clock + Sync + Copy + Drop>(
     rt: R,
@@ -48,13 +51,60 @@ fn by_parking<R: Wait + Threads + Clock + Sync + Copy + Drop>(
     rounds: u32,
 ) -> Result<usize, Fault> {
     let lot = ParkingLot::new(rt, alloc, 2, 7)?;
+    one_pair(&rt, &lot, LEFT, rounds)
+}
+
+/// How many nanoseconds one turn takes of one pair of threads, and of each of four pairs at one time.
+pub fn pairs_of<R: Wait + Threads + Clock + Sync + Copy + Drop>(
+    rt: R,
+    alloc: Global,
+    rounds: u32,
+) -> Result<(u128, u128), Fault> {
+    let start = Instant::now(&rt)?;
+    by_parking(rt, alloc, rounds)?;
+    let one = start.elapsed(&rt)?;
+    let start = Instant::now(&rt)?;
+    by_pairs(rt, alloc, rounds)?;
+    let four = start.elapsed(&rt)?;
+    Ok((nanos_each(one, rounds), nanos_each(four, rounds)))
+}
+
+/// Has four pairs of threads hand their turns to and fro under keys of different buckets, and answers how many of them
+/// end where they have to.
+pub fn by_pairs<R: Wait + Threads + Clock + Sync + Copy + Drop>(
+    rt: R,
+    alloc: Global,
+    rounds: u32,
+) -> Result<usize, Fault> {
+    let lot = ParkingLot::new(rt, alloc, 2 * PAIRS, 7)?;
+    let ended = thread::map_indices(
+        &rt,
+        alloc,
+        PAIRS,
+        &|pair| one_pair(&rt, &lot, pair.wrapping_mul(2), rounds).ok(),
+    )?;
+    let mut right = 0usize;
+    for (pair, turn) in ended.iter().enumerate() {
+        right = right.wrapping_add(usize::from(*turn == Some(pair.wrapping_mul(2))));
+    }
+    Ok(right)
+}
+
+/// Hands a turn to and fro between two threads, which park under that key and the next, and answers whose it is.
+fn one_pair<R: Wait + Threads + Clock + Sync>(
+    rt: &R,
+    lot: &ParkingLot<R>,
+    key: usize,
+    rounds: u32,
+) -> Result<usize, Fault> {
+    let next = key.wrapping_add(1);
     let mut left = lot.thread_data()?;
     let mut right = lot.thread_data()?;
-    let turn = AtomicUsize::new(LEFT);
+    let turn = AtomicUsize::new(key);
     thread::join(
-        &rt,
-        || park_in_turns(&lot, &mut left, &turn, LEFT, RIGHT, rounds),
-        || park_in_turns(&lot, &mut right, &turn, RIGHT, LEFT, rounds),
+        rt,
+        || park_in_turns(lot, &mut left, &turn, key, next, rounds),
+        || park_in_turns(lot, &mut right, &turn, next, key, rounds),
     );
     Ok(turn.load(Ordering::SeqCst))
 }

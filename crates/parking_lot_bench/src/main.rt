@@ -6,16 +6,13 @@
 //! difference of the rounds.
 //!
 //! - `generic KIND ROUNDS` makes so many pairs of a lock and its release, by the generic locks over raw locks of one
-//!   atomic word:
-//! `read`, `write`, `mapped-read`, `mapped-write` and `mutex`, by std's own locks `std-read`, `std-write` and
-//! `std-mutex`, and
-//!   without a lock `none`. It prints how many pairs found the value that they must find.
+//!   atomic word: `read`, `write`, `mapped-read`, `mapped-write` and `mutex`, by std's own locks `std-read`, `std-write`
+//!   and `std-mutex`, and without a lock `none`. It prints how many pairs found the value that they must find.
 //! - `lot pair ROUNDS` hands a turn to and fro between two threads, by the lot and by condition variables, and prints
-//!   what one
-//!   turn took of each; `lot empty ROUNDS` unparks the first waiter of a key that has none.
+//!   what one turn took of each; `lot pairs ROUNDS` does so by the lot between two threads, and then between four pairs
+//!   of threads at one time; `lot empty ROUNDS` unparks the first waiter of a key that has none.
 //! - `locks PAIR PAIRS` locks and unlocks so many times with nobody beside it, in the form that is named (`mutex`,
-//!   `read-in-time`,
-//!   `upgrade-try`, `fair-guard`, `nested`, `std-write` ..), and prints what is left in the word.
+//!   `read-in-time`, `upgrade-try`, `fair-guard`, `nested`, `std-write` ..), and prints what is left in the word.
 //! - `locks turns ROUNDS` has two threads hand each kind of lock to one another, and prints what one turn took.
 #![tactic(auto)]
 
@@ -44,6 +41,7 @@ enum Call {
     Small,
     Generic(Kind, u64),
     LotPair(u32),
+    LotPairs(u32),
     LotEmpty(u32),
     Locks(Pair, u32),
     Turns(u32),
@@ -60,6 +58,7 @@ fn asked(rt: &HostRuntime) -> Option<Call> {
     match (group.as_str(), kind.as_str()) {
         ("generic", kind) => Some(Call::Generic(Kind::named(kind)?, u64::from(rounds))),
         ("lot", "pair") => Some(Call::LotPair(rounds)),
+        ("lot", "pairs") => Some(Call::LotPairs(rounds)),
         ("lot", "empty") => Some(Call::LotEmpty(rounds)),
         ("locks", "turns") => Some(Call::Turns(rounds)),
         ("locks", pair) => Some(Call::Locks(Pair::named(pair)?, rounds)),
@@ -74,11 +73,12 @@ fn told_small<R: Wait + Threads + Clock + Sync + Copy + Drop>(
 ) -> Result<String, Fault> {
     let generic = generic::small_run(rt, alloc, u64::from(SMALL))?;
     let (parked, waited) = lot::both_ways(rt, alloc, SMALL)?;
+    let pairs = lot::by_pairs(rt, alloc, SMALL)?;
     let fair = lot::fair_turns(rt, alloc, SMALL)?;
     let words = pairs::all_pairs(rt, alloc, SMALL)?;
     let (mutex, lock) = turns::both_ways(rt, alloc, SMALL)?;
     Ok(format!(in alloc;
-        "{generic}\nturns {parked} by parking, {waited} by condvars, {fair} fair\nleft {words}, turns {mutex} by the mutex, {lock} by the lock"
+        "{generic}\nturns {parked} by parking, {waited} by condvars, {pairs} pairs, {fair} fair\nleft {words}, turns {mutex} by the mutex, {lock} by the lock"
     )?)
 }
 
@@ -98,6 +98,10 @@ fn told<R: Wait + Threads + Clock + Sync + Copy + Drop>(
             let (parking, condvars) = lot::turns_of(rt, alloc, rounds)?;
             Ok(format!(in alloc; "parking {parking} ns a turn, condvars {condvars} ns")?)
         }
+        Call::LotPairs(rounds) => {
+            let (one, four) = lot::pairs_of(rt, alloc, rounds)?;
+            Ok(format!(in alloc; "one pair {one} ns a turn, four pairs {four} ns")?)
+        }
         Call::LotEmpty(rounds) => {
             let fair = lot::fair_turns(rt, alloc, rounds)?;
             Ok(format!(in alloc; "{fair} fair")?)
@@ -116,7 +120,7 @@ fn told<R: Wait + Threads + Clock + Sync + Copy + Drop>(
 fn main(rt: HostRuntime) -> ExitCode {
     let Some(call) = asked(&rt) else {
         let _ = eprintln!(rt;
-            "generic KIND ROUNDS, lot pair|empty ROUNDS, locks PAIR PAIRS, locks turns ROUNDS"
+            "generic KIND ROUNDS, lot pair|pairs|empty ROUNDS, locks PAIR PAIRS, locks turns ROUNDS"
         );
         return ExitCode::FAILURE;
     };

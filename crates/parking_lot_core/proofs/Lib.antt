@@ -1,1 +1,10 @@
-pub mod Closed
+mod Apart
+mod Crossing
+mod Lists
+mod Lots
+mod Moves
+mod Numbers
+mod Queues
+mod Requeued
+mod Sifts
+mod Waiters

@@ -1,2 +1,4 @@
+pub mod Lines
 pub mod Participants
 pub mod Shared
+pub mod Waits

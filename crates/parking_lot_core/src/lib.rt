@@ -5,11 +5,20 @@
 //! that locks need: a counter of spins, a lock without a value and a seat on which a thread sleeps.
 #![tactic(auto)]
 
+mod bucket;
+mod chain;
 pub mod deadlock;
+mod going_on;
+mod levels;
+mod line;
 mod parking_calls;
 mod parking_lot;
+mod requeues;
+mod seat;
 mod spin;
 mod state;
+mod stuck;
+mod table;
 mod thread_data;
 mod thread_parker;
 mod under_lock;

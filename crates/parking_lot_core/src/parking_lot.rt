@@ -1,23 +1,29 @@
 //! The lot for real threads.
-ghost use Rattle.std.specs.Prelude.{◌≡◌, ◌<◌, ◌↔◌, ◌⊎◌, IsTrue, IsErrOf, IfOk, IfErr, []};
+ghost use Rattle.std.specs.Prelude.{◌≡◌, ◌<◌, ◌↔◌, ◌⊎◌, IsTrue, IsErrOf, IfOk, IfErr, false, []};
 ghost use Rattle.parking_lot_core_model.specs.declared.fault.SizeFault.TheVariants.{BadSize};
 ghost use Rattle.parking_lot_core.specs.Shared.{IsRefused, OnSomeLot};
 ghost use Rattle.parking_lot_core_model.specs.Machine.{retire_fault, retired, Does, Makes};
 ghost use Rattle.parking_lot_core_model.specs.declared.fault.LotFault.TheVariants.{TooManyThreads, NoMemory};
 
-use crate::parking_calls::stuck;
+use crate::seat::Seats;
 use crate::state::State;
+use crate::stuck::stuck;
+use crate::table::Table;
 use crate::thread_data::ThreadData;
-use crate::under_lock::{enter, give_back};
-use parking_lot_core_model::{Lot, LotFault, SizeFault};
+use crate::under_lock::close;
+use parking_lot_core_model::{LotFault, SizeFault};
 use std::alloc::{Allocator, Global};
 use std::sync::atomic::{AtomicUsize, Ordering};
 use std::sync::{Mutex, Wait};
 
+/// The most threads that a lot can have at one time.
+const LIMIT: usize = 65_536;
+
 /// Lists of sleeping threads by key, for real threads. It is shared by reference, and keeps the runtime and the
 /// allocator that it was given.
 ///
-/// The lists are those of a [`Lot`], under a lock; a thread that waits sleeps on a condition variable of its own.
+/// A key's list stands in one of its buckets, each under a lock of its own; a thread that waits sleeps at a seat of
+/// its own. There are 16 buckets at first, and three or more for each thread that is registered.
 ///
 /// ```text
 /// let lot = ParkingLot::new(rt, alloc, 16, 7)?;
@@ -29,7 +35,10 @@ pub struct ParkingLot<R, A: Allocator = Global> {
     pub(crate) rt: R,
     pub(crate) number: u64,
     pub(crate) max_threads: usize,
+    /// The numbers of threads.
     pub(crate) state: Mutex<State<A>>,
+    pub(crate) table: Table<A>,
+    pub(crate) seats: Seats<A>,
     /// How many keys were claimed.
     keys: AtomicUsize,
 }
@@ -52,15 +61,19 @@ impl<R: Drop, A: Allocator + Clone> ParkingLot<R, A> {
         ensures size { IsErrOf result BadSize ↔ ((max_threads ≡ 0) ⊎ (65536 < max_threads)) }
         ensures made { IfOk result (λ lot. (lot.rt ≡ rt) × (lot.number ≡ number) × (lot.max_threads ≡ max_threads)) }
     {
-        // A bad size is told before refused memory, so the copy's refusal is looked at behind the lot's.
-        let for_seats: Result<A, _> = alloc.clone();
-        let lot = Lot::new(alloc, max_threads, number)?;
-        let seats = Vec::new(for_seats?);
+        if max_threads == 0 || max_threads > LIMIT {
+            return Err(SizeFault::BadSize);
+        }
+        let state = State::new(alloc.clone()?);
+        let table = Table::new(alloc.clone()?)?;
+        let seats = Seats::new(alloc)?;
         Ok(ParkingLot {
             rt,
             number,
             max_threads,
-            state: Mutex::new(State::new(lot, seats)),
+            state: Mutex::new(state),
+            table,
+            seats,
             keys: AtomicUsize::new(0),
         })
     }
@@ -126,7 +139,8 @@ impl<R: Wait, A: Allocator + Clone> ParkingLot<R, A> {
     /// Registers a participant under the least number that is free, and makes all the room that its waits need. A
     /// refusal leaves the number free and every list as it was.
     ///
-    /// Waits at most for the lot's short sections. A refusal is `TooManyThreads` or `NoMemory`.
+    /// Waits at most for another registration, and where buckets become more for the lock of each bucket, under which
+    /// callbacks of other calls run. A refusal is `TooManyThreads` or `NoMemory`.
     ///
     /// ```text
     /// let mut me = lot.thread_data()?;   // once for each thread
@@ -138,29 +152,35 @@ impl<R: Wait, A: Allocator + Clone> ParkingLot<R, A> {
         ensures fault { IfErr result (λ fault. (fault ≡ TooManyThreads) ⊎ (fault ≡ NoMemory)) }
         ensures full { IfErr result (IsRefused self.now.max_threads) }
     {
-        self.state
-            .lock(&self.rt)
-            .admit(self.number, self.max_threads)
+        let mut state = self.state.lock(&self.rt);
+        let admitted = state.admit(self.number, self.max_threads, &self.seats, &self.table);
+        let (made, grown) = match admitted {
+            Ok(admitted) => admitted,
+            Err(fault) => return Err(fault),
+        };
+        if let Some(buckets) = grown {
+            self.table.grow(&self.rt, buckets);
+        }
+        Ok(made)
     }
 
     /// Gives a participant's number back, and forgets what is recorded for that number in the lot.
     ///
-    /// Callers show that it is one of this lot, which `same_lot` tests. Waits at most for the lot's short sections.
+    /// Callers show that it is one of this lot, which `same_lot` tests. Waits at most for a registration.
     ///
     /// ```text
     /// if lot.same_lot(&me) { lot.retire(me); }
     /// ```
     pub fn retire(&self, thread_data: ThreadData<A>)
         requires { (thread_data.lot ≡ self.now.number) × (thread_data.thread < self.now.max_threads) }
-        ensures { OnSomeLot (Does (λ m. retire_fault m thread_data.thread) (Makes (λ m. retired m thread_data.thread)))
-            result }
+        ensures { OnSomeLot (λ key. false)
+            (Does (λ m. retire_fault m thread_data.thread) (Makes (λ m. retired m thread_data.thread))) result }
     {
-        let (mut state, found) = enter(self);
-        let retired = state.retire(thread_data.thread_number());
-        give_back(state, found);
-        match retired {
-            Ok(()) => {}
-            Err(_) => match stuck(&self.rt) {},
+        let thread = thread_data.thread_number();
+        let mut state = self.state.lock(&self.rt);
+        if !state.retire(thread) {
+            match stuck(&self.rt) {}
         }
+        close(state, thread);
     }
 }

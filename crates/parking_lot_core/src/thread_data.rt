@@ -1,9 +1,9 @@
 //! A participant's own data.
 ghost use Rattle.std.specs.Prelude.{◌≡◌};
 
+use crate::chain::Chain;
 use std::alloc::{Allocator, Global};
 use std::marker::Model;
-use std::sync::{Arc, Condvar};
 
 /// What a participant of a [`ParkingLot`](crate::ParkingLot) keeps of itself: the number of its lot, its own number
 /// there and its recorded resources. It can't be copied, and is lent to whatever may wait.
@@ -14,7 +14,8 @@ pub struct ThreadData<A: Allocator = Global> {
     pub(crate) lot: u64,
     pub(crate) thread: usize,
     pub(crate) resources: Vec<usize, A>,
-    pub(crate) seat: Arc<Condvar, A>,
+    /// Its node, while it doesn't wait.
+    pub(crate) node: Chain<A>,
 }
 
 impl<A: Allocator> Model for ThreadData<A> {

@@ -1,5 +1,5 @@
-//! Tests of the parking lot and of lock words, for what no clause of theirs says: that the lot's definitions are the ones
-//! meant, by rows worked by hand, the printed text, that calls succeed where memory is left, that threads sleep and are
+//! Tests of the parking lot and of lock words, for what no clause of theirs says: that the lot's definitions are the
+//! ones meant, by rows worked by hand, the printed text, that calls succeed where memory is left, that threads sleep and are
 //! woken, and that a lock word can be had and excludes.
 #![tactic(auto)]
 
@@ -11,6 +11,8 @@ mod heaps;
 mod lists;
 #[cfg(test)]
 mod lock_words;
+#[cfg(test)]
+mod many;
 #[cfg(test)]
 mod parking;
 #[cfg(test)]

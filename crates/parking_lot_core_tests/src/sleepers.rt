@@ -1,22 +1,23 @@
 //! Threads that sleep and are woken. Each waits for a flag or a thread for a bounded number of turns.
 use parking_lot_core::{
     DEFAULT_PARK_TOKEN, FilterOp, ParkResult, ParkToken, ParkingLot, RequeueOp, ThreadData,
-    ThreadParker, ThreadParkerT, UnparkHandleT, UnparkToken, WordLock, park, thread_yield,
-    unpark_all, unpark_filter, unpark_one, unpark_requeue,
+    ThreadParker, ThreadParkerT, UnparkHandleT, UnparkResult, UnparkToken, WordLock, park,
+    thread_yield, unpark_all, unpark_filter, unpark_one, unpark_requeue,
 };
-use std::alloc::AllocError;
+use std::alloc::{AllocError, Global};
 use std::sync::Wait;
 use std::sync::atomic::{AtomicUsize, Ordering};
 use std::test::Fail;
 use std::thread;
+use std::thread::Threads;
 use std::time::{Clock, Instant};
 
-const TURNS: u32 = 10_000_000;
+pub const TURNS: u32 = 10_000_000;
 
 const ROUNDS: usize = 100_000;
 
 /// Waits until the flag has come so far, and answers whether it has.
-fn has_come(flag: &AtomicUsize, value: usize) -> bool {
+pub fn has_come(flag: &AtomicUsize, value: usize) -> bool {
     for _turn in 0..TURNS {
         if flag.load(Ordering::SeqCst) == value {
             return true;
@@ -26,10 +27,10 @@ fn has_come(flag: &AtomicUsize, value: usize) -> bool {
     false
 }
 
-/// Unparks a waiter of key 3, as soon as there is one.
-fn unparked<R: Wait>(lot: &ParkingLot<R>, token: usize) -> bool {
+/// Unparks a waiter of the key, as soon as there is one.
+pub fn unparked<R: Wait>(lot: &ParkingLot<R>, key: usize, token: usize) -> bool {
     for _turn in 0..TURNS {
-        if unpark_one(lot, 3, |_| UnparkToken(token)).unparked_threads == 1 {
+        if unpark_one(lot, key, |_| UnparkToken(token)).unparked_threads == 1 {
             return true;
         }
         thread_yield();
@@ -37,10 +38,11 @@ fn unparked<R: Wait>(lot: &ParkingLot<R>, token: usize) -> bool {
     false
 }
 
-/// Parks under key 3, as long as it isn't over.
-fn parked<R: Wait + Clock>(
+/// Parks under the key, as long as it isn't over.
+pub fn parked<R: Wait + Clock>(
     lot: &ParkingLot<R>,
     me: &mut ThreadData,
+    key: usize,
     over: &AtomicUsize,
 ) -> Option<ParkResult> {
     let going = 0usize;
@@ -50,7 +52,7 @@ fn parked<R: Wait + Clock>(
     Some(park(
         lot,
         me,
-        3,
+        key,
         || over.load(Ordering::SeqCst) == going,
         || {},
         |_, _| {},
@@ -66,7 +68,7 @@ fn parked_each<R: Wait + Clock>(
     over: &AtomicUsize,
 ) -> bool {
     for round in 0..ROUNDS {
-        if parked(lot, me, over) != Some(ParkResult::Unparked(UnparkToken(round))) {
+        if parked(lot, me, 3, over) != Some(ParkResult::Unparked(UnparkToken(round))) {
             return false;
         }
     }
@@ -76,7 +78,7 @@ fn parked_each<R: Wait + Clock>(
 /// Unparks so often, with the number of the round. Where nobody comes it says that it is over.
 fn unparked_each<R: Wait>(lot: &ParkingLot<R>, over: &AtomicUsize) -> bool {
     for round in 0..ROUNDS {
-        if !unparked(lot, round) {
+        if !unparked(lot, 3, round) {
             over.store(1, Ordering::SeqCst);
             unpark_all(lot, 3, UnparkToken(ROUNDS));
             return false;
@@ -85,18 +87,27 @@ fn unparked_each<R: Wait>(lot: &ParkingLot<R>, over: &AtomicUsize) -> bool {
     true
 }
 
+/// One thread is woken as often as it parks, and at the end nobody is left.
+fn none_is_lost<R: Wait + Threads + Clock + Sync>(
+    rt: &R,
+    lot: &ParkingLot<R>,
+    me: &mut ThreadData,
+) -> bool {
+    let over = AtomicUsize::new(0);
+    let (slept, woke) = thread::join(
+        rt,
+        || parked_each(lot, me, &over),
+        || unparked_each(lot, &over),
+    );
+    let left = unpark_all(lot, 3, UnparkToken(0));
+    slept & woke & (left == 0)
+}
+
 #[test]
 fn a_hundred_thousand_unparks_are_not_lost(rt: HostRuntime) -> Result<(), Fail> {
     let lot = ParkingLot::new(rt, rt.alloc(), 2, 7)?;
     let mut me = lot.thread_data()?;
-    let over = AtomicUsize::new(0);
-    let (slept, woke) = thread::join(
-        &rt,
-        || parked_each(&lot, &mut me, &over),
-        || unparked_each(&lot, &over),
-    );
-    let left = unpark_all(&lot, 3, UnparkToken(0));
-    assert!(rt; slept & woke & (left == 0));
+    assert!(rt; none_is_lost(&rt, &lot, &mut me));
     Ok(())
 }
 
@@ -126,41 +137,50 @@ fn parked_late<R: Wait + Clock>(
 
 /// Unparks a waiter of key 3 in its turn.
 fn unparked_then<R: Wait>(lot: &ParkingLot<R>, step: &AtomicUsize) -> bool {
-    let woke = has_come(step, 1) && unparked(lot, 9);
+    let woke = has_come(step, 1) && unparked(lot, 3, 9);
     step.store(2, Ordering::SeqCst);
     woke
+}
+
+/// How the park ended, whether another took it, and whether it was told to be late.
+fn ended_late<R: Wait + Threads + Clock + Sync>(
+    rt: &R,
+    lot: &ParkingLot<R>,
+) -> (Option<ParkResult>, bool, bool) {
+    let step = AtomicUsize::new(0);
+    let late = AtomicUsize::new(0);
+    let (ended, woke) = thread::join(
+        rt,
+        || parked_late(lot, rt, &step, &late),
+        || unparked_then(lot, &step),
+    );
+    (ended, woke, late.load(Ordering::SeqCst) != 0)
 }
 
 #[test]
 fn a_deadline_behind_a_taking_is_no_time_out(rt: HostRuntime) -> Result<(), Fail> {
     let lot = ParkingLot::new(rt, rt.alloc(), 2, 7)?;
-    let step = AtomicUsize::new(0);
-    let late = AtomicUsize::new(0);
-    let (ended, woke) = thread::join(
-        &rt,
-        || parked_late(&lot, &rt, &step, &late),
-        || unparked_then(&lot, &step),
-    );
-    let is_unparked = ended == Some(ParkResult::Unparked(UnparkToken(9)));
-    let is_late = late.load(Ordering::SeqCst) != 0;
-    assert!(rt; is_unparked & woke & !is_late);
+    let ended = ended_late(&rt, &lot);
+    let unparked = Some(ParkResult::Unparked(UnparkToken(9)));
+    assert!(rt; ended == (unparked, true, false));
     Ok(())
 }
 
-/// Parks under key 3 as the sleeper of that number, behind those with lesser numbers, and answers its token.
-fn sleeps<R: Wait + Clock>(
+/// Parks under the key as the sleeper of that number, behind those with lesser numbers, and answers its token.
+pub fn sleeps<R: Wait + Clock>(
     lot: &ParkingLot<R>,
     joined: &AtomicUsize,
     number: usize,
+    key: usize,
 ) -> Option<UnparkToken> {
     let mut me = lot.thread_data().ok()?;
-    if !has_come(joined, number) || number >= 3 {
+    if !has_come(joined, number) || number >= 8 {
         return None;
     }
     let ended = park(
         lot,
         &mut me,
-        3,
+        key,
         || true,
         || joined.store(number + 1, Ordering::SeqCst),
         |_, _| {},
@@ -183,60 +203,99 @@ fn are_told(tokens: Result<Vec<Option<UnparkToken>>, AllocError>, told: [usize; 
     }
 }
 
-#[test]
-fn a_filter_takes_whom_it_wants(rt: HostRuntime) -> Result<(), Fail> {
-    let lot = ParkingLot::new(rt, rt.alloc(), 3, 7)?;
-    let joined = AtomicUsize::new(0);
-    let sleepers = || thread::map_indices(
-        &rt,
-        rt.alloc(),
-        3,
-        &|number| sleeps(&lot, &joined, number),
-    );
+/// Three sleep under key 3. Answers what each was told.
+fn three_sleep<R: Wait + Threads + Clock + Sync>(
+    rt: &R,
+    alloc: Global,
+    lot: &ParkingLot<R>,
+    joined: &AtomicUsize,
+) -> Result<Vec<Option<UnparkToken>>, AllocError> {
+    thread::map_indices(rt, alloc, 3, &|number| sleeps(lot, joined, number, 3))
+}
+
+/// As soon as all sleep, wakes the second by a filter, and then all others by another.
+fn filters<R: Wait>(
+    lot: &ParkingLot<R>,
+    joined: &AtomicUsize,
+) -> Option<(UnparkResult, UnparkResult)> {
+    if !has_come(joined, 3) {
+        return None;
+    }
     let second = |token: ParkToken| match token {
         ParkToken(0) => FilterOp::Skip,
         ParkToken(1) => FilterOp::Unpark,
         _ => FilterOp::Stop,
     };
-    let waker = || {
-        if !has_come(&joined, 3) {
-            return None;
-        }
-        let one = unpark_filter(&lot, 3, second, |_| UnparkToken(7));
-        let rest = unpark_filter(&lot, 3, |_| FilterOp::Unpark, |_| UnparkToken(8));
-        Some((one, rest))
+    let one = unpark_filter(lot, 3, second, |_| UnparkToken(7));
+    let rest = unpark_filter(lot, 3, |_| FilterOp::Unpark, |_| UnparkToken(8));
+    Some((one, rest))
+}
+
+/// Whether the filters wake whom they want.
+fn are_filtered<R: Wait + Threads + Clock + Sync>(
+    rt: &R,
+    alloc: Global,
+    lot: &ParkingLot<R>,
+) -> bool {
+    let joined = AtomicUsize::new(0);
+    let (tokens, woke) = thread::join(
+        rt,
+        || three_sleep(rt, alloc, lot, &joined),
+        || filters(lot, &joined),
+    );
+    let Some((one, rest)) = woke else {
+        return false;
     };
-    let (tokens, woke) = thread::join(&rt, sleepers, waker);
-    let (one, rest) = woke.ok_or("not all joined")?;
     let is_one = (one.unparked_threads == 1) & one.have_more_threads;
     let are_two = (rest.unparked_threads == 2) & !rest.have_more_threads;
-    assert!(rt; is_one & are_two & are_told(tokens, [8, 7, 8]));
+    is_one & are_two & are_told(tokens, [8, 7, 8])
+}
+
+#[test]
+fn a_filter_takes_whom_it_wants(rt: HostRuntime) -> Result<(), Fail> {
+    let lot = ParkingLot::new(rt, rt.alloc(), 3, 7)?;
+    assert!(rt; are_filtered(&rt, rt.alloc(), &lot));
     Ok(())
+}
+
+/// As soon as all sleep, wakes the first and has the others sleep under key 4, where they are woken. Answers the first
+/// step, and how many were left under key 3 and under key 4.
+fn requeues<R: Wait>(
+    lot: &ParkingLot<R>,
+    joined: &AtomicUsize,
+) -> Option<(UnparkResult, usize, usize)> {
+    if !has_come(joined, 3) {
+        return None;
+    }
+    let op = || RequeueOp::UnparkOneRequeueRest;
+    let moved = unpark_requeue(lot, 3, 4, op, |_, _| UnparkToken(7));
+    let left = unpark_all(lot, 3, UnparkToken(6));
+    Some((moved, left, unpark_all(lot, 4, UnparkToken(8))))
+}
+
+/// Whether those that were requeued wake under the other key.
+fn are_requeued<R: Wait + Threads + Clock + Sync>(
+    rt: &R,
+    alloc: Global,
+    lot: &ParkingLot<R>,
+) -> bool {
+    let joined = AtomicUsize::new(0);
+    let (tokens, woke) = thread::join(
+        rt,
+        || three_sleep(rt, alloc, lot, &joined),
+        || requeues(lot, &joined),
+    );
+    let Some((moved, left, rest)) = woke else {
+        return false;
+    };
+    let are_moved = (moved.unparked_threads == 1) & (moved.requeued_threads == 2);
+    are_moved & (left == 0) & (rest == 2) & are_told(tokens, [7, 8, 8])
 }
 
 #[test]
 fn requeued_threads_wake_under_the_other_key(rt: HostRuntime) -> Result<(), Fail> {
     let lot = ParkingLot::new(rt, rt.alloc(), 3, 7)?;
-    let joined = AtomicUsize::new(0);
-    let sleepers = || thread::map_indices(
-        &rt,
-        rt.alloc(),
-        3,
-        &|number| sleeps(&lot, &joined, number),
-    );
-    let waker = || {
-        if !has_come(&joined, 3) {
-            return None;
-        }
-        let op = || RequeueOp::UnparkOneRequeueRest;
-        let moved = unpark_requeue(&lot, 3, 4, op, |_, _| UnparkToken(7));
-        let left = unpark_all(&lot, 3, UnparkToken(6));
-        Some((moved, left, unpark_all(&lot, 4, UnparkToken(8))))
-    };
-    let (tokens, woke) = thread::join(&rt, sleepers, waker);
-    let (moved, left, rest) = woke.ok_or("not all joined")?;
-    let are_moved = (moved.unparked_threads == 1) & (moved.requeued_threads == 2);
-    assert!(rt; are_moved & (left == 0) & (rest == 2) & are_told(tokens, [7, 8, 8]));
+    assert!(rt; are_requeued(&rt, rt.alloc(), &lot));
     Ok(())
 }
 
@@ -257,37 +316,54 @@ fn each_64th_unpark_or_filter_is_fair(rt: HostRuntime) -> Result<(), Fail> {
     Ok(())
 }
 
+/// Whether a thread that sleeps on the seat is told to be late. Another unparks it.
+fn is_parked_late<R: Wait + Threads + Sync>(rt: &R, seat: &ThreadParker) -> bool {
+    let sleeper = || {
+        seat.park(rt);
+        seat.timed_out(rt)
+    };
+    let (late, ()) = thread::join(rt, sleeper, || seat.unpark_lock(rt).unpark());
+    late
+}
+
 #[test]
 fn a_seat_is_unparked_by_its_handle(rt: HostRuntime) -> Result<(), Fail> {
     let seat = ThreadParker::new();
     let past = Instant::now(&rt)?;
     seat.prepare_park(&rt);
-    let is_parked_late = seat.park_until(&rt, past, &rt);
+    let is_in_time = seat.park_until(&rt, past, &rt);
     let is_late = seat.timed_out(&rt);
-    let sleeper = || {
-        seat.park(&rt);
-        seat.timed_out(&rt)
-    };
-    let (parked, ()) = thread::join(&rt, sleeper, || seat.unpark_lock(&rt).unpark());
+    let is_parked_late = is_parked_late(&rt, &seat);
     let is_unparked = seat.park_until(&rt, past, &rt);
-    assert!(rt; !is_parked_late & is_late & !parked & is_unparked);
+    assert!(rt; !is_in_time & is_late & !is_parked_late & is_unparked);
     Ok(())
+}
+
+/// Counts up by steps that another thread's could come between, but for the lock.
+fn counts<R: Wait>(rt: &R, lock: &WordLock, count: &AtomicUsize) {
+    for _round in 0..10_000u32 {
+        let pass = lock.lock(rt);
+        let seen = count.load(Ordering::SeqCst);
+        count.store(seen.wrapping_add(1), Ordering::SeqCst);
+        lock.unlock(pass);
+    }
+}
+
+/// How far two threads count.
+fn counted_by_two<R: Wait + Threads + Sync>(rt: &R) -> usize {
+    let lock = WordLock::new();
+    let count = AtomicUsize::new(0);
+    thread::join(
+        rt,
+        || counts(rt, &lock, &count),
+        || counts(rt, &lock, &count),
+    );
+    count.load(Ordering::SeqCst)
 }
 
 #[test]
 fn a_word_lock_excludes(rt: HostRuntime) {
-    let lock = WordLock::new();
-    let count = AtomicUsize::new(0);
-    let adder = || {
-        for _round in 0..10_000u32 {
-            let pass = lock.lock(&rt);
-            let seen = count.load(Ordering::SeqCst);
-            count.store(seen.wrapping_add(1), Ordering::SeqCst);
-            lock.unlock(pass);
-        }
-    };
-    thread::join(&rt, adder, adder);
-    assert!(rt; count.load(Ordering::SeqCst) == 20_000);
+    assert!(rt; counted_by_two(&rt) == 20_000);
 }
 
 /// Awaits its turn so many times, parked under its own key, and gives it to the other side.
@@ -338,15 +414,20 @@ fn await_turn<R: Wait + Clock>(
     false
 }
 
+/// Whether two threads hand a turn to one another so often.
+fn hand_turns<R: Wait + Threads + Clock + Sync>(rt: &R, lot: &ParkingLot<R>, rounds: u32) -> bool {
+    let turn = AtomicUsize::new(0);
+    let (left, right) = thread::join(
+        rt,
+        || take_turns(lot, &turn, 0, rounds),
+        || take_turns(lot, &turn, 1, rounds),
+    );
+    left & right & (turn.load(Ordering::SeqCst) == 0)
+}
+
 #[test]
 fn two_threads_hand_a_turn_to_and_fro(rt: HostRuntime) -> Result<(), Fail> {
     let lot = ParkingLot::new(rt, rt.alloc(), 2, 7)?;
-    let turn = AtomicUsize::new(0);
-    let (left, right) = thread::join(
-        &rt,
-        || take_turns(&lot, &turn, 0, 100),
-        || take_turns(&lot, &turn, 1, 100),
-    );
-    assert!(rt; left & right & (turn.load(Ordering::SeqCst) == 0));
+    assert!(rt; hand_turns(&rt, &lot, 100));
     Ok(())
 }

@@ -1,16 +1,17 @@
 //! The lot for threads, as one or two threads use it.
 
+use crate::sleepers;
 use parking_lot_core::{
     DEFAULT_PARK_TOKEN, DEFAULT_UNPARK_TOKEN, LotFault, ParkResult, ParkingLot, RequeueOp,
     SizeFault, SpinWait, ThreadData, UnparkResult, UnparkToken, WordLock, deadlock, park,
     unpark_all, unpark_one, unpark_requeue,
 };
 use std::sync::Wait;
+use std::sync::atomic::AtomicUsize;
 use std::test::Fail;
 use std::thread;
+use std::thread::Threads;
 use std::time::{Clock, Instant};
-
-const NO_TIMEOUT: Option<(Instant, &HostRuntime)> = None;
 
 #[test]
 fn sizes_of_lots_for_threads_are_limited(rt: HostRuntime) {
@@ -174,31 +175,25 @@ fn a_word_lock_is_locked_again(rt: HostRuntime) {
     assert!(rt; SpinWait::default().spin());
 }
 
+/// How a thread's park ends, and whether another found it.
+fn both<R: Wait + Threads + Clock + Sync>(
+    rt: &R,
+    lot: &ParkingLot<R>,
+    me: &mut ThreadData,
+) -> (Option<ParkResult>, bool) {
+    let over = AtomicUsize::new(0);
+    thread::join(
+        rt,
+        || sleepers::parked(lot, me, 3, &over),
+        || sleepers::unparked(lot, 3, 42),
+    )
+}
+
 #[test]
 fn one_thread_unparks_another(rt: HostRuntime) -> Result<(), Fail> {
     let lot = ParkingLot::new(rt, rt.alloc(), 2, 7)?;
     let mut me = lot.thread_data()?;
-    assert!(rt; lot.same_lot(&me));
-    let sleeper = || park(
-        &lot,
-        &mut me,
-        3,
-        || true,
-        || {},
-        |_, _| {},
-        DEFAULT_PARK_TOKEN,
-        NO_TIMEOUT,
-    );
-    let waker = || {
-        for _turn in 0..1_000_000u32 {
-            if unpark_one(&lot, 3, |_| UnparkToken(42)).unparked_threads == 1 {
-                return true;
-            }
-            thread::yield_now();
-        }
-        false
-    };
-    let (ended, woke) = thread::join(&rt, sleeper, waker);
-    assert!(rt; (ended == ParkResult::Unparked(UnparkToken(42))) & woke);
+    let told = Some(ParkResult::Unparked(UnparkToken(42)));
+    assert!(rt; both(&rt, &lot, &mut me) == (told, true));
     Ok(())
 }

@@ -10,6 +10,18 @@ const LOCK: Line = (Step::Ask(Mode::Exclusive, How::Waits), Answer::Had);
 /// It is tried in vain.
 const REFUSED: Line = (Step::Probe(Mode::Exclusive, How::Tries), Answer::Refused);
 
+/// So it is by a call that gives up.
+const GIVES_UP: Line = (
+    Step::Probe(Mode::Exclusive, How::For(1_000)),
+    Answer::Refused,
+);
+
+/// It is had by one that may wait.
+const HAD_IN_TIME: Line = (
+    Step::Probe(Mode::Exclusive, How::For(1_000)),
+    Answer::HadAt(1),
+);
+
 /// The hold ends.
 const END: Line = (Step::Do(Deed::End), Answer::Done);
 
@@ -55,25 +67,20 @@ const ALONE: &[Line] = &[
 const IN_TIME: &[Line] = &[
     LOCK,
     (Step::Probe(Mode::Exclusive, How::Past), Answer::Refused),
-    (
-        Step::Probe(Mode::Exclusive, How::For(1_000)),
-        Answer::Refused,
-    ),
+    GIVES_UP,
     WORD_IS_1,
     END,
     (Step::Probe(Mode::Exclusive, How::Past), Answer::HadAt(1)),
-    (
-        Step::Probe(Mode::Exclusive, How::For(1_000)),
-        Answer::HadAt(1),
-    ),
+    HAD_IN_TIME,
     (Step::Probe(Mode::Exclusive, How::Always), Answer::HadAt(1)),
 ];
 
 #[test]
 fn one_thread_has_a_mutex_or_gives_up(rt: HostRuntime) -> Result<(), Fail> {
-    alone(rt, rt.alloc(), "alone", on(Kind::Plain), ALONE)?;
-    alone(rt, rt.alloc(), "plain in time", on(Kind::Plain), IN_TIME)?;
-    alone(rt, rt.alloc(), "fair in time", on(Kind::Fair), IN_TIME)
+    let alloc = rt.alloc();
+    alone(rt, alloc, "alone", on(Kind::Plain), ALONE)?;
+    alone(rt, alloc, "plain in time", on(Kind::Plain), IN_TIME)?;
+    alone(rt, alloc, "fair in time", on(Kind::Fair), IN_TIME)
 }
 
 /// The second thread, which sleeps behind the first, finds what that has said, and answers.
@@ -91,27 +98,14 @@ const UNLOCKS_FOR_ANYBODY: &[Line] = &[LOCK, PARKED, SAY_1, END, LOCK, END];
 
 #[test]
 fn a_mutex_is_handed_over(rt: HostRuntime) -> Result<(), Fail> {
+    let alloc = rt.alloc();
     let fair = on(Kind::Fair);
-    pair(rt, rt.alloc(), "fair, unlocked", fair, UNLOCKS, SECOND)?;
-    pair(
-        rt,
-        rt.alloc(),
-        "fair, handed over",
-        fair,
-        HANDS_OVER,
-        SECOND,
-    )?;
-    pair(rt, rt.alloc(), "fair, bumped", fair, BUMPS, SECOND)?;
+    pair(rt, alloc, "fair, unlocked", fair, UNLOCKS, SECOND)?;
+    pair(rt, alloc, "fair, handed over", fair, HANDS_OVER, SECOND)?;
+    pair(rt, alloc, "fair, bumped", fair, BUMPS, SECOND)?;
     let plain = on(Kind::Plain);
-    pair(
-        rt,
-        rt.alloc(),
-        "plain, handed over",
-        plain,
-        HANDS_OVER,
-        SECOND,
-    )?;
-    pair(rt, rt.alloc(), "plain, bumped", plain, BUMPS, SECOND)
+    pair(rt, alloc, "plain, handed over", plain, HANDS_OVER, SECOND)?;
+    pair(rt, alloc, "plain, bumped", plain, BUMPS, SECOND)
 }
 
 /// The lot's 64th unpark asks for a fair release.
@@ -130,17 +124,12 @@ const OF_ANOTHER_LOT: Setting = Setting {
 
 #[test]
 fn a_sleeper_is_woken(rt: HostRuntime) -> Result<(), Fail> {
+    let alloc = rt.alloc();
     let lines = [UNLOCKS_FOR_ANYBODY, SECOND, &[], &[]];
-    play(rt, rt.alloc(), "a sleeper", on(Kind::Plain), lines)?;
-    play(rt, rt.alloc(), "of another lot", OF_ANOTHER_LOT, lines)?;
-    pair(
-        rt,
-        rt.alloc(),
-        "fair by the lot",
-        FAIR_BY_THE_LOT,
-        UNLOCKS,
-        SECOND,
-    )
+    play(rt, alloc, "a sleeper", on(Kind::Plain), lines)?;
+    play(rt, alloc, "of another lot", OF_ANOTHER_LOT, lines)?;
+    let fair = FAIR_BY_THE_LOT;
+    pair(rt, alloc, "fair by the lot", fair, UNLOCKS, SECOND)
 }
 
 /// The number that a guard adds to, and what it is then.
@@ -153,6 +142,9 @@ const GET_11: Line = (Step::Do(Deed::Get), Answer::Number(11));
 /// It adds behind another thread that has the mutex, and keeps the guard until that one has looked.
 const ADDS_BEHIND: &[Line] = &[LOCKED, LOCK, ADD_10, HEAR_1, END];
 
+/// What the guard lends in the end.
+const LEFT_11: &[Line] = &[LOCK, GET_11, END];
+
 /// It hands the mutex over, which is never free in between.
 const HANDS_OVER_TO_ONE: &[Line] = &[LOCK, PUT_1, PARKED, END_FAIRLY, REFUSED, SAY_1];
 
@@ -161,22 +153,11 @@ const GOES_SECOND: &[Line] = &[LOCK, PUT_1, PARKED, SAY_1, BUMP, GET_11, END];
 
 #[test]
 fn a_guard_gives_way(rt: HostRuntime) -> Result<(), Fail> {
-    let left: &[Line] = &[LOCK, GET_11, END];
     let plain = on(Kind::Plain);
-    play(
-        rt,
-        rt.alloc(),
-        "a fair end",
-        plain,
-        [HANDS_OVER_TO_ONE, ADDS_BEHIND, &[], left],
-    )?;
-    play(
-        rt,
-        rt.alloc(),
-        "a bump",
-        plain,
-        [GOES_SECOND, ADDS_BEHIND, &[], left],
-    )
+    let lines = [HANDS_OVER_TO_ONE, ADDS_BEHIND, &[], LEFT_11];
+    play(rt, rt.alloc(), "a fair end", plain, lines)?;
+    let lines = [GOES_SECOND, ADDS_BEHIND, &[], LEFT_11];
+    play(rt, rt.alloc(), "a bump", plain, lines)
 }
 
 /// A guard of a fair mutex writes and reads.
@@ -197,10 +178,7 @@ fn a_guard_of_a_fair_mutex_lends_what_was_written(rt: HostRuntime) -> Result<(),
 const NESTED: &[Line] = &[
     LOCK,
     (Step::Probe(Mode::Exclusive, How::Past), Answer::Refused),
-    (
-        Step::Probe(Mode::Exclusive, How::For(1_000)),
-        Answer::Refused,
-    ),
+    GIVES_UP,
     (Step::AskToo(Mode::Exclusive, How::Past), Answer::Had),
     (Step::DoToo(Deed::Get), Answer::Number(5)),
     (Step::DoToo(Deed::End), Answer::Done),
@@ -219,10 +197,7 @@ const NESTED: &[Line] = &[
     (Step::Aside(Aside::Locked), Answer::Yes),
     END,
     (Step::Probe(Mode::Exclusive, How::Past), Answer::HadAt(1)),
-    (
-        Step::Probe(Mode::Exclusive, How::For(1_000)),
-        Answer::HadAt(1),
-    ),
+    HAD_IN_TIME,
     (Step::Probe(Mode::Exclusive, How::Always), Answer::HadAt(1)),
     (Step::Aside(Aside::Locked), Answer::No),
 ];
@@ -246,12 +221,6 @@ fn holds_of_a_reentrant_mutex_nest(rt: HostRuntime) -> Result<(), Fail> {
     let alloc = rt.alloc();
     let reentrant = on(Kind::Reentrant);
     alone(rt, alloc, "nested", reentrant, NESTED)?;
-    pair(
-        rt,
-        alloc,
-        "behind the last",
-        reentrant,
-        NESTS_BEFORE,
-        LOCKS_BEHIND,
-    )
+    let lines = [NESTS_BEFORE, LOCKS_BEHIND, &[], &[]];
+    play(rt, alloc, "behind the last", reentrant, lines)
 }

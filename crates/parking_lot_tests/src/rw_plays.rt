@@ -97,6 +97,9 @@ macro_rules! put {
     };
 }
 
+/// The guard adds 10.
+const ADD_10: Line = (Step::Do(Deed::AddTen), Answer::Done);
+
 /// Says this number.
 macro_rules! say {
     ($number:expr) => {
@@ -331,21 +334,9 @@ const READS_0: &[Line] = &[READ, comes!(26), NO_READER, get!(0), END];
 const WRITES_6: &[Line] = &[comes!(16), WRITE, put!(6), END];
 
 /// Once the word is as told, it adds 10, and keeps the guard until the other thread has looked.
-const ADDS_BEHIND_A_WRITER: &[Line] = &[
-    comes!(8),
-    WRITE,
-    (Step::Do(Deed::AddTen), Answer::Done),
-    hear!(1),
-    END,
-];
+const ADDS_BEHIND_A_WRITER: &[Line] = &[comes!(8), WRITE, ADD_10, hear!(1), END];
 
-const ADDS_BEHIND_A_READER: &[Line] = &[
-    comes!(16),
-    WRITE,
-    (Step::Do(Deed::AddTen), Answer::Done),
-    hear!(1),
-    END,
-];
+const ADDS_BEHIND_A_READER: &[Line] = &[comes!(16), WRITE, ADD_10, hear!(1), END];
 
 /// What a guard does once a writer sleeps behind it: nobody else comes in before that one, or it has been there behind
 /// a bump.
@@ -373,49 +364,26 @@ const STOPS_READING: &[Line] = &[
 
 const GIVES_WAY_AS_READER: &[Line] = &[READ, comes!(26), get!(0), say!(1), BUMP, get!(10), END];
 
+/// What the guard lends in the end.
+const LEFT_6: &[Line] = &[READ, get!(6), END];
+
+const LEFT_10: &[Line] = &[READ, get!(10), END];
+
+const LEFT_11: &[Line] = &[READ, get!(11), END];
+
 #[test]
 fn a_writer_that_sleeps_comes_first(rt: HostRuntime) -> Result<(), Fail> {
     let alloc = rt.alloc();
-    let left_6: &[Line] = &[READ, get!(6), END];
-    let left_10: &[Line] = &[READ, get!(10), END];
-    let left_11: &[Line] = &[READ, get!(11), END];
-    let writer = ADDS_BEHIND_A_WRITER;
-    let reader = ADDS_BEHIND_A_READER;
-    play(
-        rt,
-        alloc,
-        "reads 0",
-        of(9),
-        [READS_0, WRITES_6, &[], left_6],
-    )?;
-    play(
-        rt,
-        alloc,
-        "stops writing",
-        of(9),
-        [STOPS_WRITING, writer, &[], left_11],
-    )?;
-    play(
-        rt,
-        alloc,
-        "gives way as writer",
-        of(9),
-        [GIVES_WAY_AS_WRITER, writer, &[], left_11],
-    )?;
-    play(
-        rt,
-        alloc,
-        "stops reading",
-        of(9),
-        [STOPS_READING, reader, &[], left_10],
-    )?;
-    play(
-        rt,
-        alloc,
-        "gives way as reader",
-        of(9),
-        [GIVES_WAY_AS_READER, reader, &[], left_10],
-    )
+    let lines = [READS_0, WRITES_6, &[], LEFT_6];
+    play(rt, alloc, "reads 0", of(9), lines)?;
+    let lines = [STOPS_WRITING, ADDS_BEHIND_A_WRITER, &[], LEFT_11];
+    play(rt, alloc, "stops writing", of(9), lines)?;
+    let lines = [GIVES_WAY_AS_WRITER, ADDS_BEHIND_A_WRITER, &[], LEFT_11];
+    play(rt, alloc, "gives way as writer", of(9), lines)?;
+    let lines = [STOPS_READING, ADDS_BEHIND_A_READER, &[], LEFT_10];
+    play(rt, alloc, "stops reading", of(9), lines)?;
+    let lines = [GIVES_WAY_AS_READER, ADDS_BEHIND_A_READER, &[], LEFT_10];
+    play(rt, alloc, "gives way as reader", of(9), lines)
 }
 
 /// It reads until a writer sleeps, and asks again as a reader and as an upgradable owner: past the writer, or in vain.
@@ -444,23 +412,11 @@ const READS_ON: &[Line] = &[
 fn one_that_reads_may_read_again_on_a_recursive_lock(rt: HostRuntime) -> Result<(), Fail> {
     let alloc = rt.alloc();
     let recursive = on(Kind::Recursive(5));
-    pair(
-        rt,
-        alloc,
-        "reads again",
-        recursive,
-        READS_AGAIN,
-        WRITES_BEHIND,
-    )?;
+    let lines = [READS_AGAIN, WRITES_BEHIND, &[], &[]];
+    play(rt, alloc, "reads again", recursive, lines)?;
     pair(rt, alloc, "reads on", recursive, READS_ON, WRITES_BEHIND)?;
-    pair(
-        rt,
-        alloc,
-        "asks in vain",
-        of(5),
-        ASKS_IN_VAIN,
-        WRITES_BEHIND,
-    )
+    let lines = [ASKS_IN_VAIN, WRITES_BEHIND, &[], &[]];
+    play(rt, alloc, "asks in vain", of(5), lines)
 }
 
 /// It reads alone while another asks to write for a while and gives up, and goes on until one more has looked.

@@ -4,4 +4,4 @@ use Rattle.parking_lot_core.proofs.under_lock.give_back.Goals as goal
 -- the lock was given back
 pub returns : goal.returns
 unfolding WasHeld
-returns g c = tt
+returns g c = λ old new before after. tt

@@ -1,0 +1,436 @@
+//! Threads that sleep under many keys, whose lists stand in one bucket or in several, and buckets that become more.
+use crate::sleepers::{TURNS, has_come, parked, sleeps, unparked};
+use parking_lot_core::{
+    FilterOp, LotFault, ParkResult, ParkToken, ParkingLot, RequeueOp, UnparkToken, park,
+    thread_yield, unpark_all, unpark_filter, unpark_one, unpark_requeue,
+};
+use refusing_heap::{Case, Heap, Said, Seen, make_in_turn};
+use std::alloc::{AllocError, Allocator, Global};
+use std::sync::Wait;
+use std::sync::atomic::{AtomicUsize, Ordering};
+use std::test::Fail;
+use std::thread;
+use std::thread::Threads;
+use std::time::{Clock, Instant};
+
+/// How many threads sleep, and as many wake them.
+const PAIRS: usize = 4;
+
+const KEYS: usize = 64;
+
+/// How often each is woken.
+const ROUNDS: usize = 25_000;
+
+/// How many threads are registered beside them, each once so many more were woken.
+const OTHERS: usize = 90;
+
+const BETWEEN: usize = 1_000;
+
+/// The key of a pair's round. Keys of different pairs have one bucket, until there are more.
+fn key_of(pair: usize, round: usize) -> usize {
+    let each = KEYS / PAIRS;
+    pair.wrapping_mul(each).wrapping_add(round % each)
+}
+
+/// Parks again and again, and answers whether each park got the token of its round.
+fn parked_each<R: Wait + Clock>(lot: &ParkingLot<R>, pair: usize, over: &AtomicUsize) -> bool {
+    let Ok(mut me) = lot.thread_data() else {
+        return false;
+    };
+    for round in 0..ROUNDS {
+        let ended = parked(lot, &mut me, key_of(pair, round), over);
+        if ended != Some(ParkResult::Unparked(UnparkToken(round))) {
+            return false;
+        }
+    }
+    true
+}
+
+/// Moves a sleeper to another key, as soon as there is one, and unparks it there.
+fn unparked_elsewhere<R: Wait>(lot: &ParkingLot<R>, key: usize, token: usize) -> bool {
+    let other = key.wrapping_add(KEYS);
+    let told = UnparkToken(token);
+    for _turn in 0..TURNS {
+        let answer = unpark_requeue(lot, key, other, || RequeueOp::RequeueOne, |_, _| told);
+        if answer.requeued_threads == 1 {
+            return unpark_one(lot, other, |_| told).unparked_threads == 1;
+        }
+        thread_yield();
+    }
+    false
+}
+
+/// Wakes the sleeper of a round, each second time under another key.
+fn woken<R: Wait>(lot: &ParkingLot<R>, key: usize, round: usize) -> bool {
+    if round % 2 == 0 {
+        unparked(lot, key, round)
+    } else {
+        unparked_elsewhere(lot, key, round)
+    }
+}
+
+/// Wakes a sleeper so often, with the number of the round. Where it doesn't come it says that it is over.
+fn unparked_each<R: Wait>(
+    lot: &ParkingLot<R>,
+    pair: usize,
+    over: &AtomicUsize,
+    done: &AtomicUsize,
+) -> bool {
+    for round in 0..ROUNDS {
+        if !woken(lot, key_of(pair, round), round) {
+            over.store(1, Ordering::SeqCst);
+            for key in 0..2 * KEYS {
+                unpark_all(lot, key, UnparkToken(ROUNDS));
+            }
+            return false;
+        }
+        done.fetch_add(1, Ordering::SeqCst);
+    }
+    true
+}
+
+/// Waits until so many were woken, or it is over.
+fn are_woken(done: &AtomicUsize, over: &AtomicUsize, count: usize) -> bool {
+    for _turn in 0..TURNS {
+        if done.load(Ordering::SeqCst) >= count {
+            return true;
+        }
+        if over.load(Ordering::SeqCst) != 0 {
+            return false;
+        }
+        thread_yield();
+    }
+    false
+}
+
+/// Registers threads while others sleep and are woken.
+fn registered<R: Wait>(lot: &ParkingLot<R>, over: &AtomicUsize, done: &AtomicUsize) -> bool {
+    for number in 0..OTHERS {
+        if !are_woken(done, over, number.wrapping_mul(BETWEEN)) || lot.thread_data().is_err() {
+            return false;
+        }
+    }
+    true
+}
+
+/// What one of the threads does.
+fn takes_part<R: Wait + Clock>(
+    lot: &ParkingLot<R>,
+    number: usize,
+    over: &AtomicUsize,
+    done: &AtomicUsize,
+) -> bool {
+    if number < PAIRS {
+        parked_each(lot, number, over)
+    } else if number < 2 * PAIRS {
+        unparked_each(lot, number - PAIRS, over, done)
+    } else {
+        registered(lot, over, done)
+    }
+}
+
+/// All take part at one time. Answers what each answered.
+fn all_take_part<R: Wait + Threads + Clock + Sync>(
+    rt: &R,
+    alloc: Global,
+    lot: &ParkingLot<R>,
+    over: &AtomicUsize,
+    done: &AtomicUsize,
+) -> Result<Vec<bool>, AllocError> {
+    thread::map_indices(
+        rt,
+        alloc,
+        2 * PAIRS + 1,
+        &|number| takes_part(lot, number, over, done),
+    )
+}
+
+#[test]
+fn none_is_lost_while_buckets_grow(rt: HostRuntime) -> Result<(), Fail> {
+    let lot = ParkingLot::new(rt, rt.alloc(), 100, 7)?;
+    let over = AtomicUsize::new(0);
+    let done = AtomicUsize::new(0);
+    let ended = all_take_part(&rt, rt.alloc(), &lot, &over, &done)?;
+    let mut left = 0usize;
+    for key in 0..2 * KEYS {
+        left = left.wrapping_add(unpark_all(&lot, key, UnparkToken(0)));
+    }
+    let are_right = ended.iter().all(|is_right| *is_right);
+    assert!(rt; are_right & (left == 0) & (done.load(Ordering::SeqCst) == PAIRS * ROUNDS));
+    Ok(())
+}
+
+/// A key's list: the digits are its waiters' tokens, each and one.
+fn list<R: Wait, A: Allocator>(lot: &ParkingLot<R, A>, key: usize) -> usize {
+    let mut seen = 0usize;
+    unpark_filter(
+        lot,
+        key,
+        |token| {
+            seen = seen.wrapping_mul(10).wrapping_add(token.0.wrapping_add(1));
+            FilterOp::Skip
+        },
+        |_| UnparkToken(0),
+    );
+    seen
+}
+
+/// The lists of keys 3 and 67, which have one bucket until there are 128, and of 4 and 5.
+fn lists<R: Wait>(lot: &ParkingLot<R>) -> [usize; 4] {
+    [list(lot, 3), list(lot, 67), list(lot, 4), list(lot, 5)]
+}
+
+/// A call, with the token that those are told that it wakes.
+#[derive(Clone, Copy)]
+enum Call {
+    One(usize),
+    All(usize),
+    Requeue(usize, usize, RequeueOp),
+    /// Wakes whoever has this token.
+    Filter(usize, usize),
+    /// Registers so many threads.
+    Register(usize),
+}
+
+fn make<R: Wait>(lot: &ParkingLot<R>, call: Call, token: usize) {
+    let told = UnparkToken(token);
+    match call {
+        Call::One(key) => {
+            unpark_one(lot, key, |_| told);
+        }
+        Call::All(key) => {
+            unpark_all(lot, key, told);
+        }
+        Call::Requeue(from, to, op) => {
+            unpark_requeue(lot, from, to, || op, |_, _| told);
+        }
+        Call::Filter(key, wanted) => {
+            let filter = |token: ParkToken| if token.0 == wanted {
+                FilterOp::Unpark
+            } else {
+                FilterOp::Skip
+            };
+            unpark_filter(lot, key, filter, |_| told);
+        }
+        Call::Register(count) => {
+            for _thread in 0..count {
+                let _ = lot.thread_data();
+            }
+        }
+    }
+}
+
+/// What stands after each call. With 46 threads there are 256 buckets.
+const STEPS: [(Call, usize, [usize; 4]); 10] = [
+    (Call::One(3), 10, [2, 34, 5, 6]),
+    (Call::Register(40), 0, [2, 34, 5, 6]),
+    (
+        Call::Requeue(67, 4, RequeueOp::UnparkOneRequeueRest),
+        11,
+        [2, 0, 54, 6],
+    ),
+    (Call::Requeue(4, 67, RequeueOp::RequeueOne), 0, [2, 5, 4, 6]),
+    (
+        Call::Requeue(3, 67, RequeueOp::RequeueAll),
+        0,
+        [0, 52, 4, 6],
+    ),
+    (Call::Requeue(5, 4, RequeueOp::Abort), 0, [0, 52, 4, 6]),
+    (Call::Filter(67, 1), 13, [0, 5, 4, 6]),
+    (Call::All(4), 14, [0, 5, 0, 6]),
+    (Call::Requeue(5, 3, RequeueOp::UnparkOne), 15, [0, 5, 0, 0]),
+    (Call::All(67), 16, [0, 0, 0, 0]),
+];
+
+/// Makes the calls once all sleep, and answers the first step behind which a list isn't as it should be.
+fn wrong_step<R: Wait>(lot: &ParkingLot<R>, joined: &AtomicUsize) -> Option<usize> {
+    let mut wrong = None;
+    if !has_come(joined, 6) || lists(lot) != [12, 34, 5, 6] {
+        wrong = Some(0);
+    }
+    for (at, (call, token, after)) in STEPS.iter().enumerate() {
+        make(lot, *call, *token);
+        if wrong.is_none() && lists(lot) != *after {
+            wrong = Some(at.wrapping_add(1));
+        }
+    }
+    wrong
+}
+
+/// Whether the six sleepers were told these tokens.
+fn are_told(tokens: Result<Vec<Option<UnparkToken>>, AllocError>, told: [usize; 6]) -> bool {
+    let Ok(tokens) = tokens else {
+        return false;
+    };
+    let mut are_right = tokens.len() == 6;
+    for (token, wanted) in tokens.iter().zip(told.iter()) {
+        are_right = are_right & (*token == Some(UnparkToken(*wanted)));
+    }
+    are_right
+}
+
+/// The key under which a sleeper sleeps.
+fn key_of_sleeper(number: usize) -> usize {
+    match number {
+        0 | 1 => 3,
+        2 | 3 => 67,
+        4 => 4,
+        _ => 5,
+    }
+}
+
+/// Six sleep. Answers what each was told.
+fn six_sleep<R: Wait + Threads + Clock + Sync>(
+    rt: &R,
+    alloc: Global,
+    lot: &ParkingLot<R>,
+    joined: &AtomicUsize,
+) -> Result<Vec<Option<UnparkToken>>, AllocError> {
+    thread::map_indices(
+        rt,
+        alloc,
+        6,
+        &|number| sleeps(lot, joined, number, key_of_sleeper(number)),
+    )
+}
+
+/// The six sleep while the calls are made. Answers what they were told, and the first step that went wrong.
+fn stepped<R: Wait + Threads + Clock + Sync>(
+    rt: &R,
+    alloc: Global,
+    lot: &ParkingLot<R>,
+    joined: &AtomicUsize,
+) -> (Result<Vec<Option<UnparkToken>>, AllocError>, Option<usize>) {
+    thread::join(
+        rt,
+        || six_sleep(rt, alloc, lot, joined),
+        || wrong_step(lot, joined),
+    )
+}
+
+#[test]
+fn neighbouring_lists_stay(rt: HostRuntime) -> Result<(), Fail> {
+    let lot = ParkingLot::new(rt, rt.alloc(), 46, 7)?;
+    let joined = AtomicUsize::new(0);
+    let (tokens, wrong) = stepped(&rt, rt.alloc(), &lot, &joined);
+    let step = wrong.unwrap_or(STEPS.len());
+    assert!(rt;
+        wrong.is_none() & are_told(tokens, [10, 13, 11, 14, 16, 15]),
+        "step {step}"
+    );
+    Ok(())
+}
+
+/// Parks under key 3 until a moment that is past, and is moved to another key before. Answers how the park ended, under
+/// which key it was told that its moment was past, and whether that list was empty then.
+fn moved_then_late<R: Wait + Clock>(
+    rt: &R,
+    lot: &ParkingLot<R>,
+    past: Instant,
+    other: usize,
+) -> Option<(ParkResult, usize, bool)> {
+    let mut me = lot.thread_data().ok()?;
+    let mut told = (0, false);
+    let ended = park(
+        lot,
+        &mut me,
+        3,
+        || true,
+        || {
+            unpark_requeue(
+                lot,
+                3,
+                other,
+                || RequeueOp::RequeueAll,
+                |_, _| UnparkToken(0),
+            );
+        },
+        |key, is_last| told = (key, is_last),
+        ParkToken(1),
+        Some((past, rt)),
+    );
+    Some((ended, told.0, told.1))
+}
+
+#[test]
+fn a_moved_thread_gives_up_at_its_new_key(rt: HostRuntime) -> Result<(), Fail> {
+    let past = Instant::now(&rt)?;
+    let lot = ParkingLot::new(rt, rt.alloc(), 4, 7)?;
+    for other in [4, 19] {
+        let ended = moved_then_late(&rt, &lot, past, other);
+        let lists = (list(&lot, 3), list(&lot, other));
+        assert!(rt;
+            ended == Some((ParkResult::TimedOut, other, true)) && lists == (0, 0),
+            "moved to {other}"
+        );
+    }
+    Ok(())
+}
+
+/// A registration behind so many, while one of them stands in the list of key 3.
+#[derive(Clone, Copy)]
+struct Beside(usize);
+
+fn admitted<R: Wait>(lot: &ParkingLot<R, &Heap>) -> Result<usize, LotFault> {
+    match lot.thread_data() {
+        Ok(me) => Ok(me.thread_number()),
+        Err(fault) => Err(fault),
+    }
+}
+
+/// Registers the next. Where it is refused the sleeper stands in its list, and it is registered then. The sleeper is
+/// woken.
+fn register<R: Wait>(heap: &Heap, lot: &ParkingLot<R, &Heap>, threads: usize) -> Option<Seen> {
+    let before = heap.asked();
+    let said = admitted(lot);
+    let behind = heap.asked();
+    let is_done = said == Ok(threads);
+    let stands = list(lot, 3) == 2;
+    let again = is_done || admitted(lot) == Ok(threads);
+    let still = list(lot, 3) == 2;
+    let woken = unpark_one(lot, 3, |_| UnparkToken(42)).unparked_threads == 1;
+    let fits = Said::of(is_done, said == Err(LotFault::NoMemory)).fits(heap);
+    Seen::of(before, behind, fits & stands & again & still & woken)
+}
+
+impl<R: Wait + Clock + Copy + Drop> Case<R> for Beside {
+    fn run(self, rt: R, heap: &Heap) -> Option<Seen> {
+        let Beside(threads) = self;
+        let past = Instant::now(&rt).ok()?;
+        let lot = ParkingLot::new(rt, heap, 40, 7).ok()?;
+        let mut me = lot.thread_data().ok()?;
+        for _thread in 1..threads {
+            admitted(&lot).ok()?;
+        }
+        let mut seen = None;
+        let ended = park(
+            &lot,
+            &mut me,
+            3,
+            || true,
+            || seen = register(heap, &lot, threads),
+            |_, _| {},
+            ParkToken(1),
+            Some((past, &rt)),
+        );
+        if ended == ParkResult::Unparked(UnparkToken(42)) {
+            seen
+        } else {
+            None
+        }
+    }
+}
+
+#[test]
+fn a_refused_growth_leaves_a_waiter(rt: HostRuntime) {
+    for (next, growths) in [
+        (Beside(1), 1),
+        (Beside(5), 2),
+        (Beside(10), 2),
+        (Beside(16), 3),
+    ] {
+        let refused = make_in_turn(rt, rt.alloc(), next).unwrap_or(0);
+        let threads = next.0;
+        assert!(rt; refused == growths, "behind {threads}: {refused} growths");
+    }
+}
