@@ -1,10 +1,10 @@
 //! Threads that sleep under many keys, whose lists stand in one bucket or in several, and buckets that become more.
 use crate::sleepers::{TURNS, has_come, parked, sleeps, unparked};
 use parking_lot_core::{
-    FilterOp, LotFault, ParkResult, ParkToken, ParkingLot, RequeueOp, UnparkToken, park,
-    thread_yield, unpark_all, unpark_filter, unpark_one, unpark_requeue,
+    FilterOp, LotFault, ParkResult, ParkToken, ParkingLot, RequeueOp, ThreadData, UnparkToken,
+    park, thread_yield, unpark_all, unpark_filter, unpark_one, unpark_requeue,
 };
-use refusing_heap::{Case, Heap, Said, Seen, make_in_turn};
+use refusing_heap::{Heap, Refusal, RefusingHeap, Said, Seen};
 use std::alloc::{AllocError, Allocator, Global};
 use std::sync::Wait;
 use std::sync::atomic::{AtomicUsize, Ordering};
@@ -367,10 +367,6 @@ fn a_moved_thread_gives_up_at_its_new_key(rt: HostRuntime) -> Result<(), Fail> {
     Ok(())
 }
 
-/// A registration behind so many, while one of them stands in the list of key 3.
-#[derive(Clone, Copy)]
-struct Beside(usize);
-
 fn admitted<R: Wait>(lot: &ParkingLot<R, &Heap>) -> Result<usize, LotFault> {
     match lot.thread_data() {
         Ok(me) => Ok(me.thread_number()),
@@ -393,44 +389,108 @@ fn register<R: Wait>(heap: &Heap, lot: &ParkingLot<R, &Heap>, threads: usize) ->
     Seen::of(before, behind, fits & stands & again & still & woken)
 }
 
-impl<R: Wait + Clock + Copy + Drop> Case<R> for Beside {
-    fn run(self, rt: R, heap: &Heap) -> Option<Seen> {
-        let Beside(threads) = self;
-        let past = Instant::now(&rt).ok()?;
-        let lot = ParkingLot::new(rt, heap, 40, 7).ok()?;
-        let mut me = lot.thread_data().ok()?;
-        for _thread in 1..threads {
-            admitted(&lot).ok()?;
+/// Waits for the sleeper, and registers the next. Whoever sleeps is woken.
+fn register_beside<R: Wait>(
+    heap: &Heap,
+    lot: &ParkingLot<R, &Heap>,
+    threads: usize,
+    over: &AtomicUsize,
+) -> Option<Seen> {
+    for _turn in 0..TURNS {
+        if list(lot, 3) == 2 {
+            break;
         }
-        let mut seen = None;
-        let ended = park(
-            &lot,
-            &mut me,
-            3,
-            || true,
-            || seen = register(heap, &lot, threads),
-            |_, _| {},
-            ParkToken(1),
-            Some((past, &rt)),
-        );
-        if ended == ParkResult::Unparked(UnparkToken(42)) {
-            seen
-        } else {
-            None
-        }
+        thread_yield();
+    }
+    let seen = register(heap, lot, threads);
+    over.store(1, Ordering::SeqCst);
+    unpark_all(lot, 3, UnparkToken(43));
+    seen
+}
+
+/// Sleeps under key 3, as long as it isn't over.
+fn sleep_here<'h, R: Wait + Clock>(
+    lot: &ParkingLot<R, &'h Heap>,
+    me: &mut ThreadData<&'h Heap>,
+    over: &AtomicUsize,
+) -> Option<ParkResult> {
+    let going = 0usize;
+    if !lot.same_lot(me) {
+        return None;
+    }
+    Some(park(
+        lot,
+        me,
+        3,
+        || over.load(Ordering::SeqCst) == going,
+        || {},
+        |_, _| {},
+        ParkToken(1),
+        None::<(Instant, &R)>,
+    ))
+}
+
+/// One sleeps, and the next is registered beside it.
+fn both_go_on<'h, R: Wait + Threads + Clock + Sync>(
+    rt: &R,
+    heap: &Heap,
+    lot: &ParkingLot<R, &'h Heap>,
+    me: &mut ThreadData<&'h Heap>,
+    threads: usize,
+) -> (Option<ParkResult>, Option<Seen>) {
+    let over = AtomicUsize::new(0);
+    thread::join(
+        rt,
+        || sleep_here(lot, me, &over),
+        || register_beside(heap, lot, threads, &over),
+    )
+}
+
+/// A registration behind so many, in this memory, while one of them sleeps under key 3.
+fn run_beside<R: Wait + Threads + Clock + Sync + Copy + Drop>(
+    rt: R,
+    heap: &Heap,
+    threads: usize,
+) -> Option<Seen> {
+    let lot = ParkingLot::new(rt, heap, 40, 7).ok()?;
+    let mut me = lot.thread_data().ok()?;
+    for _thread in 1..threads {
+        admitted(&lot).ok()?;
+    }
+    let (ended, seen) = both_go_on(&rt, heap, &lot, &mut me, threads);
+    if ended == Some(ParkResult::Unparked(UnparkToken(42))) {
+        seen
+    } else {
+        None
     }
 }
 
+/// The same with ample memory, and with each growth of it refused in turn. Answers how many there are, where all stood.
+fn run_in_turn<R: Wait + Threads + Clock + Sync + Copy + Drop>(
+    rt: R,
+    alloc: Global,
+    threads: usize,
+) -> Option<u64> {
+    let seen = run_beside(rt, &RefusingHeap::new(alloc, Refusal::Never), threads)?;
+    if !seen.stood {
+        return None;
+    }
+    let growths = seen.behind.saturating_sub(seen.before);
+    for growth in 0..growths {
+        let number = seen.before.saturating_add(growth).saturating_add(1);
+        let heap = RefusingHeap::new(alloc, Refusal::Once(number));
+        let stood = run_beside(rt, &heap, threads)?.stood;
+        if !stood || heap.refused() != 1 {
+            return None;
+        }
+    }
+    Some(growths)
+}
+
 #[test]
-fn a_refused_growth_leaves_a_waiter(rt: HostRuntime) {
-    for (next, growths) in [
-        (Beside(1), 1),
-        (Beside(5), 2),
-        (Beside(10), 2),
-        (Beside(16), 3),
-    ] {
-        let refused = make_in_turn(rt, rt.alloc(), next).unwrap_or(0);
-        let threads = next.0;
+fn a_refused_growth_leaves_a_sleeper(rt: HostRuntime) {
+    for (threads, growths) in [(1, 1), (5, 2), (10, 2), (16, 3)] {
+        let refused = run_in_turn(rt, rt.alloc(), threads).unwrap_or(0);
         assert!(rt; refused == growths, "behind {threads}: {refused} growths");
     }
 }
