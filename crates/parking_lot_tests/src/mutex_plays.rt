@@ -108,7 +108,7 @@ fn a_mutex_is_handed_over(rt: HostRuntime) -> Result<(), Fail> {
     pair(rt, alloc, "plain, bumped", plain, BUMPS, SECOND)
 }
 
-/// The lot's 64th unpark asks for a fair release.
+/// A bucket's 64th unpark asks for a fair release.
 const FAIR_BY_THE_LOT: Setting = Setting {
     kind: Kind::Plain,
     unparks: 63,

@@ -254,10 +254,17 @@ fn four<R: Wait + Threads + Clock + Sync, L: Stage<R> + Sync>(
     sum(one, other)
 }
 
-/// Unparks so often the first waiter of a key that has none.
+/// Unparks in each bucket of a lot of few threads the first waiter of a key that has none.
+fn unpark_in_each<R: Wait>(lot: &ParkingLot<R>) {
+    for key in 1_008..1_024 {
+        unpark_one(lot, key, |_| DEFAULT_UNPARK_TOKEN);
+    }
+}
+
+/// The same, so often.
 fn unpark_nobody<R: Wait>(lot: &ParkingLot<R>, times: u32) {
     for _turn in 0..times {
-        unpark_one(lot, 1_000, |_| DEFAULT_UNPARK_TOKEN);
+        unpark_in_each(lot);
     }
 }
 
