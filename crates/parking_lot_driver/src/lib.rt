@@ -23,7 +23,6 @@ mod run;
 mod section;
 mod table;
 mod timed_call;
-mod timed_run;
 mod timed_rw_run;
 mod timed_sleep;
 mod told;
@@ -42,8 +41,12 @@ pub use parking_lot_protocol::{
     Act, ActResult, CoreAnswer, MutexCore, RwCore, SectionAct, WordChange, wake_sum,
 };
 pub use place::Place;
+pub use section::{SectionWord, sleep, wake_first};
 pub use table::{LockTable, Row};
 pub use timed_call::{AskUpgradablyInTime, ReadInTime, TimedCall, UpgradeInTime, WriteInTime};
+pub use timed_sleep::{InTime, sleep_in_time};
+pub use told::Run;
+pub use under_way::UnderWay;
 pub use upgrade_call::{
     AskUpgradably, BumpUpgradable, Disown, DisownFairly, DowngradeToShared, DowngradeToUpgradable,
     TryToOwnUpgradably, TryToUpgrade, Upgrade,

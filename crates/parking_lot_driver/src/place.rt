@@ -5,9 +5,8 @@ ghost use Rattle.parking_lot_protocol.specs.Acts.{Gives};
 ghost use Rattle.parking_lot_protocol.specs.declared.act.Act.TheVariants.{Exchange};
 
 use crate::table::Row;
-use parking_lot_protocol::{Act, ActResult, WordChange, word};
+use parking_lot_protocol::{Act, ActResult, word};
 use std::alloc::Allocator;
-use std::sync::Wait;
 
 /// A row, and the most readers that may be admitted there.
 #[derive(Drop)]
@@ -69,19 +68,5 @@ impl<R, A: Allocator> Place<'_, '_, '_, R, A> {
             Ok(()) => ActResult::Exchanged,
             Err(word) => ActResult::Word(word),
         }
-    }
-}
-
-impl<R: Wait, A: Allocator> Place<'_, '_, '_, R, A> {
-    /// Changes the word in one step.
-    pub(crate) fn change(&self, change: WordChange) {
-        let mut word = self.row.load();
-        for _loss in self.row.lot().runtime().forever() {
-            match self.row.exchange(word, change.of(word)) {
-                Ok(()) => return,
-                Err(seen) => word = seen,
-            }
-        }
-        unreachable!()
     }
 }

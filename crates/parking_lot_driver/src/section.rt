@@ -5,142 +5,84 @@ use crate::looking::Looking;
 use crate::place::Place;
 use crate::under_way::UnderWay;
 use parking_lot_core::{
-    DEFAULT_PARK_TOKEN, ParkResult, ParkToken, ThreadData, UnparkToken, park, thread_yield,
-    unpark_filter, unpark_one,
+    DEFAULT_PARK_TOKEN, ParkResult, ParkToken, ParkingLot, ThreadData, UnparkToken, park,
+    thread_yield, unpark_filter, unpark_one,
 };
-use parking_lot_protocol::{Act, ActResult, SectionAct};
+use parking_lot_protocol::{Act, ActResult, SectionAct, WordChange};
 use std::alloc::Allocator;
 use std::cell::Cell;
 use std::sync::Wait;
 use std::time::Instant;
 
-impl<R: Wait, A: Allocator> Place<'_, '_, '_, R, A> {
-    /// Goes through the section that the call enters, and sleeps if it is to.
-    pub(crate) fn enter<U: UnderWay>(&self, run: &mut U, key: u8, party: &mut ThreadData<A>) {
-        match run.tell(ActResult::Entered) {
-            Act::Section(SectionAct::Check) => self.sleep(run, self.key(key), party),
-            _ => self.wake(run, self.key(key)),
-        }
-    }
+/// The word of a lock, as sections see it.
+pub trait SectionWord {
+    /// Loads the word.
+    fn load(&self) -> u64;
 
-    /// Goes through a section in which others are woken, from its first act on.
-    pub(crate) fn wake<U: UnderWay>(&self, run: &mut U, key: usize) {
-        match run.act() {
-            Act::Section(SectionAct::TakeFirst) => self.wake_first(run, key),
-            _ => self.wake_in_order(run, key),
-        }
-    }
+    /// Changes the word in one step.
+    fn change(&self, change: WordChange);
 
-    /// Sleeps until it is woken, unless the word tells it not to. Where it is seen so before the section, that isn't
-    /// entered.
-    fn sleep<U: UnderWay>(&self, run: &mut U, key: usize, party: &mut ThreadData<A>) {
-        let word = self.row.load();
-        let mut ahead = *run;
-        match ahead.tell(ActResult::Word(word)) {
-            Act::Section(SectionAct::Append(token)) => self.park(run, key, party, token),
-            _ => *run = ahead,
-        }
-    }
+    /// Clears a bit that says that threads may sleep.
+    fn clear(&self, bit: u64);
 
-    /// Parks, unless the word tells it not to. A participant of another lot can't sleep here: it lets other threads
-    /// run, and the call is to look again, as if the word had been free.
-    fn park<U: UnderWay>(
-        &self,
-        run: &mut U,
-        key: usize,
-        party: &mut ThreadData<A>,
-        token: ParkToken,
-    ) {
-        let lot = self.row.lot();
-        if !lot.same_lot(party) {
-            thread_yield();
-            run.tell(ActResult::Word(0));
-            return;
-        }
-        let checks = Cell::new(*run);
-        let ended = park(
-            lot,
-            party,
-            key,
-            || {
-                let mut now = checks.get();
-                let act = now.tell(ActResult::Word(self.row.load()));
-                checks.set(now);
-                matches!(act, Act::Section(SectionAct::Append(_)))
-            },
-            || {},
-            |_, _| {},
-            token,
-            None::<(Instant, &StillClock)>,
-        );
-        *run = checks.get();
-        match ended {
-            ParkResult::Unparked(token) => woken(run, token),
-            ParkResult::Invalid | ParkResult::TimedOut => {
-                run.tell(ActResult::Made);
-            }
-        }
+    /// Makes an act of a section that isn't a store, and tells what it gave. What isn't one on the word, the lot has
+    /// made.
+    fn made(&self, act: Act) -> ActResult;
+}
+
+/// Sleeps until it is woken, unless the word tells it not to. Where it is seen so before the section, that isn't
+/// entered.
+pub fn sleep<R: Wait, A: Allocator, W: SectionWord, U: UnderWay>(
+    lot: &ParkingLot<R, A>,
+    key: usize,
+    at: &W,
+    run: &mut U,
+    party: &mut ThreadData<A>,
+) {
+    let word = at.load();
+    let mut ahead = *run;
+    match ahead.tell(ActResult::Word(word)) {
+        Act::Section(SectionAct::Append(token)) => parks(lot, key, at, run, party, token),
+        _ => *run = ahead,
     }
 }
 
-impl<R: Wait, A: Allocator> Place<'_, '_, '_, R, A> {
-    /// Takes the first waiter of a key and wakes it.
-    fn wake_first<U: UnderWay>(&self, run: &mut U, key: usize) {
-        let takes = Cell::new(*run);
-        unpark_one(self.row.lot(), key, |done| {
-            let mut now = takes.get();
-            let token = if done.unparked_threads > 0 {
-                Some(DEFAULT_PARK_TOKEN)
-            } else {
-                None
-            };
-            now.tell(ActResult::Took {
-                token,
-                left: done.have_more_threads,
-            });
-            self.store(&mut now, done.be_fair);
-            takes.set(now);
-            now.wake_token()
-        });
-        *run = takes.get();
+/// Parks, unless the word tells it not to. A participant of another lot can't sleep here: it lets other threads run,
+/// and the call is to look again, as if the word had been free.
+fn parks<R: Wait, A: Allocator, W: SectionWord, U: UnderWay>(
+    lot: &ParkingLot<R, A>,
+    key: usize,
+    at: &W,
+    run: &mut U,
+    party: &mut ThreadData<A>,
+    token: ParkToken,
+) {
+    if !lot.same_lot(party) {
+        thread_yield();
+        run.tell(ActResult::Word(0));
+        return;
     }
-
-    /// Takes the waiters of a key in order, as far as the call lets them go, and wakes them.
-    fn wake_in_order<U: UnderWay>(&self, run: &mut U, key: usize) {
-        let looks = Cell::new(Looking {
-            run: *run,
-            taken: None,
-        });
-        unpark_filter(
-            self.row.lot(),
-            key,
-            |token| {
-                let mut now = looks.get();
-                let op = now.shown(token);
-                looks.set(now);
-                op
-            },
-            |done| {
-                let mut now = looks.get();
-                now.ended(done.have_more_threads);
-                self.store(&mut now.run, done.be_fair);
-                looks.set(now);
-                now.run.wake_token()
-            },
-        );
-        *run = looks.get().run;
-    }
-
-    /// Changes the word in a section: by one of the two stores, or by a mask.
-    fn store<U: UnderWay>(&self, run: &mut U, be_fair: bool) {
-        match run.act() {
-            Act::Section(SectionAct::Store { plain, fair }) => {
-                self.change(if be_fair { fair } else { plain });
-                run.tell(ActResult::Stored { fair: be_fair });
-            }
-            act => {
-                run.tell(self.after(act));
-            }
+    let checks = Cell::new(*run);
+    let ended = park(
+        lot,
+        party,
+        key,
+        || {
+            let mut now = checks.get();
+            let act = now.tell(ActResult::Word(at.load()));
+            checks.set(now);
+            matches!(act, Act::Section(SectionAct::Append(_)))
+        },
+        || {},
+        |_, _| {},
+        token,
+        None::<(Instant, &StillClock)>,
+    );
+    *run = checks.get();
+    match ended {
+        ParkResult::Unparked(token) => woken(run, token),
+        ParkResult::Invalid | ParkResult::TimedOut => {
+            run.tell(ActResult::Made);
         }
     }
 }
@@ -150,4 +92,119 @@ fn woken<U: UnderWay>(run: &mut U, token: UnparkToken) {
     run.tell(ActResult::Made);
     run.tell(ActResult::Made);
     run.tell(ActResult::Woken(token));
+}
+
+/// Takes the first waiter of a key and wakes it.
+pub fn wake_first<R: Wait, A: Allocator, W: SectionWord, U: UnderWay>(
+    lot: &ParkingLot<R, A>,
+    key: usize,
+    at: &W,
+    run: &mut U,
+) {
+    let takes = Cell::new(*run);
+    unpark_one(lot, key, |done| {
+        let mut now = takes.get();
+        let token = if done.unparked_threads > 0 {
+            Some(DEFAULT_PARK_TOKEN)
+        } else {
+            None
+        };
+        now.tell(ActResult::Took {
+            token,
+            left: done.have_more_threads,
+        });
+        store(at, &mut now, done.be_fair);
+        takes.set(now);
+        now.wake_token()
+    });
+    *run = takes.get();
+}
+
+/// Takes the waiters of a key in order, as far as the call lets them go, and wakes them.
+fn wake_in_order<R: Wait, A: Allocator, W: SectionWord, U: UnderWay>(
+    lot: &ParkingLot<R, A>,
+    key: usize,
+    at: &W,
+    run: &mut U,
+) {
+    let looks = Cell::new(Looking {
+        run: *run,
+        taken: None,
+    });
+    unpark_filter(
+        lot,
+        key,
+        |token| {
+            let mut now = looks.get();
+            let op = now.shown(token);
+            looks.set(now);
+            op
+        },
+        |done| {
+            let mut now = looks.get();
+            now.ended(done.have_more_threads);
+            store(at, &mut now.run, done.be_fair);
+            looks.set(now);
+            now.run.wake_token()
+        },
+    );
+    *run = looks.get().run;
+}
+
+/// Changes the word in a section: by one of the two stores, or by a mask.
+fn store<W: SectionWord, U: UnderWay>(at: &W, run: &mut U, be_fair: bool) {
+    match run.act() {
+        Act::Section(SectionAct::Store { plain, fair }) => {
+            at.change(if be_fair { fair } else { plain });
+            run.tell(ActResult::Stored { fair: be_fair });
+        }
+        act => {
+            run.tell(at.made(act));
+        }
+    }
+}
+
+impl<R: Wait, A: Allocator> SectionWord for Place<'_, '_, '_, R, A> {
+    fn load(&self) -> u64 {
+        self.row.load()
+    }
+
+    fn change(&self, change: WordChange) {
+        let mut word = self.row.load();
+        for _loss in self.row.lot().runtime().forever() {
+            match self.row.exchange(word, change.of(word)) {
+                Ok(()) => return,
+                Err(seen) => word = seen,
+            }
+        }
+        unreachable!()
+    }
+
+    fn clear(&self, bit: u64) {
+        self.row.mask(!bit);
+    }
+
+    fn made(&self, act: Act) -> ActResult {
+        self.after(act)
+    }
+}
+
+impl<R: Wait, A: Allocator> Place<'_, '_, '_, R, A> {
+    /// Goes through the section that the call enters, and sleeps if it is to.
+    pub(crate) fn enter<U: UnderWay>(&self, run: &mut U, key: u8, party: &mut ThreadData<A>) {
+        match run.tell(ActResult::Entered) {
+            Act::Section(SectionAct::Check) => {
+                sleep(self.row.lot(), self.key(key), self, run, party);
+            }
+            _ => self.wake(run, self.key(key)),
+        }
+    }
+
+    /// Goes through a section in which others are woken, from its first act on.
+    pub(crate) fn wake<U: UnderWay>(&self, run: &mut U, key: usize) {
+        match run.act() {
+            Act::Section(SectionAct::TakeFirst) => wake_first(self.row.lot(), key, self, run),
+            _ => wake_in_order(self.row.lot(), key, self, run),
+        }
+    }
 }

@@ -5,6 +5,7 @@ ghost use Rattle.parking_lot_core_model.specs.declared.fault.SizeFault.TheVarian
 
 use crossbeam_utils::CachePadded;
 use lock_api_raw::TableFull;
+use lock_word::HandoffWord;
 use parking_lot_core::{ParkingLot, SizeFault};
 use std::alloc::{Allocator, Global};
 use std::sync::atomic::{AtomicU64, AtomicUsize, Ordering};
@@ -12,8 +13,8 @@ use std::sync::atomic::{AtomicU64, AtomicUsize, Ordering};
 /// The most rows that a table can have.
 const MAX_ROWS: usize = 1 << 20;
 
-/// Rows for locks of one lot. Each row is one word, on a cache line of its own, and two keys of the lot's lists: the
-/// first for those that want the lock, the second for a writer that waits until the readers have left.
+/// Rows for locks of one lot. Each row is the word of a lock, on a cache line of its own, and two keys of the lot's
+/// lists: the first for those that want the lock, the second for a writer that waits until the readers have left.
 ///
 /// Its number of rows never changes. A lock claims a row and keeps it: rows aren't given back.
 ///
@@ -28,22 +29,47 @@ pub struct LockTable<'l, R, A: Allocator = Global> {
     lot: &'l ParkingLot<R, A>,
     /// The first key of the first row.
     first_key: usize,
-    words: Vec<CachePadded<AtomicU64>, A>,
+    words: Vec<CachePadded<Words>, A>,
     /// How many rows were claimed.
     claimed: AtomicUsize,
     ghost few: { (0 < length words.items) × (length words.items < 2 ^ 20 + 1) },
 }
 
+/// The words of a row: one that anybody may change, and those of a mutex, with which the right to it lies. A row is
+/// one lock's, so one of both stays 0.
+#[derive(Drop)]
+struct Words {
+    word: AtomicU64,
+    mutex: HandoffWord,
+}
+
+impl Words {
+    /// The words of a row that nobody has claimed.
+    fn new() -> Words {
+        Words {
+            word: AtomicU64::new(0),
+            mutex: HandoffWord::new(),
+        }
+    }
+
+    /// Loads the word of the lock that has the row.
+    fn load(&self) -> u64 {
+        self.word.load(Ordering::SeqCst) | self.mutex.word().load()
+    }
+}
+
 /// One row of a table, owned by one lock.
 ///
 /// Its word is reached by atomic steps alone, each in the one order that all threads see. Of the word nothing is known
-/// but what a step has just seen.
+/// but what a step has just seen. A mutex has the words with which the right to it lies ([`Row::mutex`]) in its place.
 #[derive(Drop)]
 pub struct Row<'t, 'l, R, A: Allocator = Global> {
     table: &'t LockTable<'l, R, A>,
     number: usize,
     /// Its word, which is one look away.
     word: &'t AtomicU64,
+    /// The words of a mutex, likewise.
+    mutex: &'t HandoffWord,
     ghost within: { number < length table.now.words.items },
 }
 
@@ -74,8 +100,8 @@ impl<'l, R, A: Allocator> LockTable<'l, R, A> {
     pub fn word(&self, row: usize) -> Option<u64>
         ensures { IsSome result ↔ (row < length self.now.words.items) }
     {
-        let word = self.words.get(row)?;
-        Some(word.load(Ordering::SeqCst))
+        let words = self.words.get(row)?;
+        Some(words.load())
     }
 
     /// Hands out the next row: 0, 1 and so on, each once. [`TableFull`] where all were handed out.
@@ -93,10 +119,12 @@ impl<'l, R, A: Allocator> LockTable<'l, R, A> {
                 }
             })
             .map_err(|_| TableFull)?;
+        let words = &self.words[number];
         Ok(Row {
             table: self,
             number,
-            word: &self.words[number],
+            word: &words.word,
+            mutex: &words.mutex,
         })
     }
 
@@ -108,14 +136,14 @@ impl<'l, R, A: Allocator> LockTable<'l, R, A> {
     }
 }
 
-/// So many words, each 0.
-fn zeros<A: Allocator>(alloc: A, count: usize) -> Result<Vec<CachePadded<AtomicU64>, A>, SizeFault>
+/// The words of so many rows, each 0.
+fn zeros<A: Allocator>(alloc: A, count: usize) -> Result<Vec<CachePadded<Words>, A>, SizeFault>
     ensures size { IfErr result (λ fault. fault ≡ NoMemory) }
     ensures made { IfOk result (λ words. length words.items ≡ count) }
 {
     let mut words = Vec::with_capacity(alloc, count)?;
     for _row in 0..count {
-        if words.push(CachePadded::new(AtomicU64::new(0))).is_err() {
+        if words.push(CachePadded::new(Words::new())).is_err() {
             return Err(SizeFault::NoMemory);
         }
     }
@@ -127,12 +155,22 @@ impl<'t, 'l, R, A: Allocator> Row<'t, 'l, R, A> {
     pub fn again(&self) -> Row<'t, 'l, R, A>
         ensures table { result.table.now ≡ self.now.table.now }
         ensures number { result.number ≡ self.now.number }
+        ensures mutex { result.mutex.now ≡ self.now.mutex.now }
     {
         Row {
             table: self.table,
             number: self.number,
             word: self.word,
+            mutex: self.mutex,
         }
+    }
+
+    /// The words of a mutex that has the row. In a clause the first of them is the name of the mutex.
+    #[inline(always)]
+    pub fn mutex(&self) -> &HandoffWord
+        ensures { result.now ≡ self.now.mutex.now }
+    {
+        self.mutex
     }
 
     /// Its place in the table.

@@ -7,6 +7,7 @@ ghost use Rattle.parking_lot_protocol.specs.declared.timed.timed_act.TimedAct.Th
 
 use crate::place::Place;
 use crate::timed_call::{TimedCall, TimedRun};
+use crate::timed_sleep::sleep_in_time;
 use crate::under_way::UnderWay;
 use parking_lot_core::{SpinWait, ThreadData, thread_yield};
 use parking_lot_protocol::timed::TimedAct;
@@ -105,7 +106,7 @@ impl<R: Wait, A: Allocator> Place<'_, '_, '_, R, A> {
         let key = self.key(key);
         match run.tell(ActResult::Entered) {
             Act::Section(SectionAct::Check) => {
-                self.sleep_in_time(run, key, deadline, clock, party);
+                sleep_in_time(self.row.lot(), key, self, run, (deadline, clock), party);
             }
             _ => self.wake(run, key),
         }

@@ -1,7 +1,7 @@
 //! The sleep of a call that may give up.
 
-use crate::place::Place;
-use parking_lot_core::{ParkResult, ParkToken, ThreadData, park, thread_yield};
+use crate::section::SectionWord;
+use parking_lot_core::{ParkResult, ParkToken, ParkingLot, ThreadData, park, thread_yield};
 use parking_lot_protocol::timed::{TimedAct, TimedSeen};
 use parking_lot_protocol::{Act, ActResult, SectionAct};
 use std::alloc::Allocator;
@@ -10,7 +10,7 @@ use std::sync::Wait;
 use std::time::{Clock, Instant};
 
 /// A call that may give up, as its sleep sees it.
-pub(crate) trait InTime: Copy {
+pub trait InTime: Copy {
     /// The bit of its row's word that is set where threads may sleep.
     fn parked(&self) -> u64;
 
@@ -66,67 +66,64 @@ fn after_sleep<T: InTime>(call: &mut T, ended: ParkResult, last: bool) {
     }
 }
 
-impl<R: Wait, A: Allocator> Place<'_, '_, '_, R, A> {
-    /// Sleeps until it is woken or its moment passes, unless the word tells it not to. Where that is seen before the
-    /// section, it isn't entered.
-    pub(crate) fn sleep_in_time<T: InTime, C: Clock>(
-        &self,
-        call: &mut T,
-        key: usize,
-        deadline: Instant,
-        clock: &C,
-        party: &mut ThreadData<A>,
-    ) {
-        let word = self.row.load();
-        let mut ahead = *call;
-        match tell(&mut ahead, ActResult::Word(word)) {
-            TimedAct::Makes(Act::Section(SectionAct::Append(token))) => {
-                self.park_in_time(call, key, token, deadline, clock, party);
-            }
-            _ => *call = ahead,
+/// Sleeps until it is woken or its moment passes, unless the word tells it not to. Where that is seen before the
+/// section, it isn't entered.
+pub fn sleep_in_time<R: Wait, A: Allocator, W: SectionWord, T: InTime, C: Clock>(
+    lot: &ParkingLot<R, A>,
+    key: usize,
+    at: &W,
+    call: &mut T,
+    until: (Instant, &C),
+    party: &mut ThreadData<A>,
+) {
+    let word = at.load();
+    let mut ahead = *call;
+    match tell(&mut ahead, ActResult::Word(word)) {
+        TimedAct::Makes(Act::Section(SectionAct::Append(token))) => {
+            park_in_time(lot, key, at, call, token, until, party);
         }
+        _ => *call = ahead,
     }
+}
 
-    /// Parks until the moment at the latest, unless the word tells it not to. A participant of another lot can't sleep
-    /// here: it lets other threads run, and the call is to look again, as if the word had been free.
-    fn park_in_time<T: InTime, C: Clock>(
-        &self,
-        call: &mut T,
-        key: usize,
-        token: ParkToken,
-        deadline: Instant,
-        clock: &C,
-        party: &mut ThreadData<A>,
-    ) {
-        let lot = self.row.lot();
-        if !lot.same_lot(party) {
-            thread_yield();
-            tell(call, ActResult::Word(0));
-            return;
-        }
-        let before = *call;
-        let parked = before.parked();
-        let word = Cell::new(0);
-        let was_last = Cell::new(false);
-        let ended = park(
-            lot,
-            party,
-            key,
-            || {
-                word.set(self.row.load());
-                joins(before, word.get())
-            },
-            || {},
-            |_key, last| {
-                was_last.set(last);
-                if masks(before, word.get(), last) {
-                    self.row.mask(!parked);
-                }
-            },
-            token,
-            Some((deadline, clock)),
-        );
-        tell(call, ActResult::Word(word.get()));
-        after_sleep(call, ended, was_last.get());
+/// Parks until the moment at the latest, unless the word tells it not to. A participant of another lot can't sleep
+/// here: it lets other threads run, and the call is to look again, as if the word had been free.
+fn park_in_time<R: Wait, A: Allocator, W: SectionWord, T: InTime, C: Clock>(
+    lot: &ParkingLot<R, A>,
+    key: usize,
+    at: &W,
+    call: &mut T,
+    token: ParkToken,
+    until: (Instant, &C),
+    party: &mut ThreadData<A>,
+) {
+    if !lot.same_lot(party) {
+        thread_yield();
+        tell(call, ActResult::Word(0));
+        return;
     }
+    let before = *call;
+    let parked = before.parked();
+    let word = Cell::new(0);
+    let was_last = Cell::new(false);
+    let ended = park(
+        lot,
+        party,
+        key,
+        || {
+            word.set(at.load());
+            joins(before, word.get())
+        },
+        || {},
+        |_key, last| {
+            was_last.set(last);
+            if masks(before, word.get(), last) {
+                at.clear(parked);
+            }
+        },
+        token,
+        Some(until),
+    );
+    tell(call, ActResult::Word(word.get()));
+    after_sleep(call, ended, was_last.get());
 }

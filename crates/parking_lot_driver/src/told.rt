@@ -1,5 +1,5 @@
 //! A call under way.
-ghost use Rattle.std.specs.Prelude.{◌≡◌, IfSome};
+ghost use Rattle.std.specs.Prelude.{◌≡◌, ◌⊎◌, IfSome};
 ghost use Rattle.parking_lot_driver.specs.Runs.{Ended, WasTold};
 ghost use Rattle.parking_lot_protocol.specs.Acts.{Gives};
 ghost use Rattle.parking_lot_protocol.specs.declared.act.Act.TheVariants.{Section, Done};
@@ -15,7 +15,7 @@ use std::marker::Model;
 
 /// A call that has begun: its core, which was told nothing but what the acts that it asked for can give.
 #[derive(Copy)]
-pub(crate) struct Run<K: Call<Core = C>, C: DecisionCore> {
+pub struct Run<K: Call<Core = C>, C: DecisionCore> {
     call: K,
     core: C,
 }
@@ -74,11 +74,21 @@ impl<K: Call<Core = C>, C: DecisionCore> Run<K, C> {
     /// again.
     pub fn tell(&mut self, seen: ActResult) -> Act
         ensures act { result ≡ C.asks self.new.1 }
+        ensures core { (self.new.1 ≡ C.told self.old.1 seen) ⊎ (self.new.1 ≡ self.old.1) }
     {
         if let Some(_word) = giving(self.act(), seen) {
             self.core.next(seen);
         }
         self.act()
+    }
+
+    /// Is told what its act gave at this word, and answers the next.
+    pub fn learn(&mut self, seen: ActResult, _word: u64) -> Act
+        requires { Gives (C.asks self.old.1) _word seen }
+        ensures act { result ≡ C.asks self.new.1 }
+        ensures core { self.new.1 ≡ C.told self.old.1 seen }
+    {
+        self.core.next(seen)
     }
 
     /// That a call which asks for its end has ended so.

@@ -8,7 +8,7 @@ use parking_lot_protocol::{Act, ActResult};
 
 /// A call that has begun: it asks for an act, and is told what that gave. What the act can't give isn't told: then it
 /// asks for the same again.
-pub(crate) trait UnderWay: Copy {
+pub trait UnderWay: Copy {
     /// The act that it has asked for.
     fn act(&self) -> Act;
 

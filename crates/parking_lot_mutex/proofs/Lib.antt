@@ -1,1 +1,3 @@
 pub mod OnceFacts
+pub mod Owned
+pub mod Trying

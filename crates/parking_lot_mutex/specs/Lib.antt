@@ -1,2 +1,3 @@
 pub mod Condvar
 pub mod Once
+pub mod Owning

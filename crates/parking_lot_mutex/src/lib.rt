@@ -5,19 +5,20 @@
 //! A raw lock owns one row. Each of its calls runs a decision core there, by `parking_lot_driver`. Where one exchange
 //! is enough it is made before a core is set up: that is the core's own first way, cut short.
 //!
-//! **An admission issues one token, a release spends it on its own row:** tokens bear the first key of their row, and
-//! two rows of a lot never have the same. Nothing is promised of a word, nor that a call comes back: what keeps two
-//! writers from one value is the std lock in which a generic lock keeps it.
+//! **A token is the one right to its mutex**, so two threads never hold it. Nothing else is said of a word.
 //!
 //! Calls that may sleep take the data of a participant of the table's lot. A participant of another lot can't sleep; it
 //! yields and asks again. A release may wait for the lot's short sections, in which sleeping threads are woken.
 #![tactic(auto)]
 
 pub mod condvar;
+mod key;
 pub mod laws;
 pub mod once;
 mod raw_fair_mutex;
 mod raw_mutex;
+mod resting;
+mod stuck;
 mod thread_id;
 mod token;
 

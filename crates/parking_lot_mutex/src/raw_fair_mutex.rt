@@ -1,6 +1,7 @@
 //! The raw mutex whose every release is fair.
 ghost use Rattle.std.specs.Prelude.{◌≡◌, ◌+◌, ◌-◌, ◌*◌, ◌%◌, ◌^◌, IfSome, MatchOption, true};
 ghost use Rattle.parking_lot_driver.specs.Ends.{MutexAdmitted, MutexEnded, MutexRefused, OwnedInTime, TimedEnded};
+ghost use Rattle.parking_lot_mutex.specs.Owning.{number_of};
 ghost use Rattle.parking_lot_protocol.specs.declared.act.CoreAnswer.{CoreAnswer};
 ghost use Rattle.parking_lot_protocol.specs.declared.act.CoreAnswer.TheVariants.{Owned};
 ghost use Rattle.parking_lot_protocol.specs.declared.mutex_phase.MutexPhase.TheVariants.{Locking, Unlocking, Bumping};
@@ -24,6 +25,23 @@ pub struct RawFairMutex<'t, 'l, R, A: Allocator = Global> {
     mutex: RawMutex<'t, 'l, R, A>,
 }
 
+impl<'t, 'l, R, A: Allocator> RawFairMutex<'t, 'l, R, A> {
+    /// Two threads never hold this mutex: a program in which they did could go no further.
+    ///
+    /// ```text
+    /// raw.never_two(token, another);   // both of this mutex: nobody can have them
+    /// ```
+    pub fn never_two(&self, one: FairMutexToken, other: FairMutexToken)
+        requires one { number_of one.0 one.1 ≡ number_of self.now.mutex.row.mutex.now.word
+            ((self.now.mutex.row.table.now.first_key + 2 * self.now.mutex.row.number) % 2 ^ 64) }
+        requires other { number_of other.0 other.1 ≡ number_of self.now.mutex.row.mutex.now.word
+            ((self.now.mutex.row.table.now.first_key + 2 * self.now.mutex.row.number) % 2 ^ 64) }
+        ensures { ⊥ }
+    {
+        self.mutex.never_two(one.into_inner(), other.into_inner());
+    }
+}
+
 impl<'t, 'l, R: Wait, A: Allocator> RawFairMutex<'t, 'l, R, A> {
     /// Waits until the mutex is owned, or until the moment by the clock that is handed in: then it is off the list, and
     /// `None` is the answer.
@@ -41,8 +59,9 @@ impl<'t, 'l, R: Wait, A: Allocator> RawFairMutex<'t, 'l, R, A> {
         clock: &C,
         party: &mut ThreadData<A>,
     ) -> Option<FairMutexToken>
-        ensures issued { IfSome result
-            (λ token. token ≡ (self.now.mutex.row.table.now.first_key + 2 * self.now.mutex.row.number) % 2 ^ 64) }
+        ensures name { IfSome result (λ token. token.0 ≡ self.now.mutex.row.mutex.now.word) }
+        ensures key { IfSome result
+            (λ token. token.1 ≡ (self.now.mutex.row.table.now.first_key + 2 * self.now.mutex.row.number) % 2 ^ 64) }
         ensures call { MatchOption result (TimedEnded GivesUp) (λ _. OwnedInTime) }
     {
         self.mutex
@@ -62,8 +81,9 @@ impl<'t, 'l, R: Wait, A: Allocator> RawFairMutex<'t, 'l, R, A> {
         clock: &C,
         party: &mut ThreadData<A>,
     ) -> Option<FairMutexToken>
-        ensures issued { IfSome result
-            (λ token. token ≡ (self.now.mutex.row.table.now.first_key + 2 * self.now.mutex.row.number) % 2 ^ 64) }
+        ensures name { IfSome result (λ token. token.0 ≡ self.now.mutex.row.mutex.now.word) }
+        ensures key { IfSome result
+            (λ token. token.1 ≡ (self.now.mutex.row.table.now.first_key + 2 * self.now.mutex.row.number) % 2 ^ 64) }
         ensures call { MatchOption result (TimedEnded GivesUp) (λ _. OwnedInTime) }
     {
         self.mutex
@@ -94,9 +114,10 @@ impl<'t, 'l, R, A: Allocator> lock_api_raw::RawMutex for RawFairMutex<'t, 'l, R,
 
     type Guard = FairMutexToken;
 
-    ghost number = { λ fair. (fair.mutex.row.table.now.first_key + 2 * fair.mutex.row.number) % 2 ^ 64 };
+    ghost number = { λ fair. number_of fair.mutex.row.mutex.now.word
+        ((fair.mutex.row.table.now.first_key + 2 * fair.mutex.row.number) % 2 ^ 64) };
 
-    ghost issued_by = { λ token. token };
+    ghost issued_by = { λ token. number_of token.0 token.1 };
 
     ghost runtime_of = { λ fair. fair.mutex.row.table.now.lot.now.rt };
 

@@ -1,26 +1,37 @@
 //! The raw mutex.
-ghost use Rattle.std.specs.Prelude.{◌≡◌, ◌≢◌, ◌+◌, ◌-◌, ◌*◌, ◌%◌, ◌^◌, IfOk, IfSome, MatchOption, true, false};
+ghost use Rattle.std.specs.Prelude.{◌≡◌, ◌+◌, ◌-◌, ◌*◌, ◌%◌, ◌^◌, IfSome, MatchOption, false, true};
 ghost use Rattle.parking_lot_driver.specs.Ends.{MutexAdmitted, MutexEnded, MutexRefused, OwnedInTime, TimedEnded};
-ghost use Rattle.parking_lot_driver.specs.Runs.{Ended};
+ghost use Rattle.parking_lot_mutex.specs.Owning.{number_of};
 ghost use Rattle.parking_lot_protocol.specs.declared.act.CoreAnswer.{CoreAnswer};
 ghost use Rattle.parking_lot_protocol.specs.declared.act.CoreAnswer.TheVariants.{Owned};
 ghost use Rattle.parking_lot_protocol.specs.declared.mutex_phase.MutexPhase.TheVariants.{Locking, Unlocking, Bumping};
 ghost use Rattle.parking_lot_protocol.specs.declared.timed.timed_act.TimedAct.TheVariants.{GivesUp};
 
+mod at_once;
+mod calls;
+mod hand_over;
+mod timed;
+mod tries;
+
+use crate::key::Key;
 use crate::token::MutexToken;
+pub(crate) use hand_over::announce;
 use lock_api_raw::{MakeLock, RawMutex as _, RawMutexFair, RawMutexTimed, TableFull};
+use lock_word::{LockWord, Owner};
 use parking_lot_core::ThreadData;
-use parking_lot_driver::{
-    Bump, Call, Lock, LockTable, Place, Row, TryLock, Unlock, UnlockFairly, to_deadline,
-};
-use parking_lot_protocol::{ActResult, CoreAnswer};
+use parking_lot_driver::{Bump, Lock, LockTable, Row, Unlock, UnlockFairly, to_deadline};
 use std::alloc::{Allocator, Global};
 use std::sync::Wait;
 use std::time::{Clock, Duration, Instant};
 
+/// The bit of a mutex's word that is set where threads may sleep.
+pub(crate) const PARKED: u64 = 2;
+
 /// An unfair mutex on one row of a lock table.
 ///
-/// Its word is 0 where it is free and 1 where it is locked; where threads may sleep 2 is added.
+/// Its word is 0 where it is free and 1 where it is locked; where threads may sleep 2 is added. With bit 0 goes **the
+/// one right to the mutex**: it lies with the word where the bit is clear. Else somebody has it as a [`MutexToken`], or
+/// it was left for a thread to which the mutex is handed over. So two threads never hold it.
 #[derive(Drop)]
 pub struct RawMutex<'t, 'l, R, A: Allocator = Global> {
     row: Row<'t, 'l, R, A>,
@@ -34,57 +45,64 @@ impl<'t, 'l, R, A: Allocator> RawMutex<'t, 'l, R, A> {
         &self.row
     }
 
-    /// What its calls run on. It has no readers to limit.
-    fn place(&self) -> Place<'_, 't, 'l, R, A>
-        ensures { result.limit ≡ 2 ^ 64 - 1 }
-    {
-        Place {
-            row: &self.row,
-            limit: u64::MAX,
-        }
-    }
-
-    /// A token of this lock.
+    /// Its word.
     #[inline(always)]
-    fn token(&self) -> MutexToken
-        ensures { result ≡ (self.now.row.table.now.first_key + 2 * self.now.row.number) % 2 ^ 64 }
+    fn word(&self) -> &LockWord
+        ensures { result.now ≡ self.now.row.mutex.now.word }
     {
-        MutexToken::new(self.row.first_key() as u64)
+        self.row.mutex().word()
     }
 
-    /// Locks a free mutex by one exchange.
+    /// The token of this mutex for the right to it.
     #[inline(always)]
-    fn locks_at_once(&self) -> bool
-        ensures { result ≡ true → MutexEnded Locking Owned }
+    pub(crate) fn token(&self, owner: Owner) -> MutexToken
+        requires { owner ≡ self.now.row.mutex.now.word }
+        ensures name { result.0 ≡ self.now.row.mutex.now.word }
+        ensures key { result.1 ≡ (self.now.row.table.now.first_key + 2 * self.now.row.number) % 2 ^ 64 }
     {
-        self.row.owns_at_once(Lock, 0, 1)
+        let key = self.row.first_key() as u64;
+        MutexToken::of(owner, Key::of(&key))
     }
 
-    /// Tries again where the first exchange was lost to this word.
-    #[cold]
-    #[inline(never)]
-    fn try_slowly(&self, word: u64) -> bool
-        requires { word ≢ 0 }
-        ensures admitted { result ≡ true → MutexAdmitted }
-        ensures refused { result ≡ false → MutexRefused (2 ^ 64 - 1) }
+    /// The right to this mutex for a token of it.
+    #[inline(always)]
+    pub(crate) fn owner(&self, token: MutexToken) -> Owner
+        requires { number_of token.0 token.1 ≡ number_of self.now.row.mutex.now.word
+            ((self.now.row.table.now.first_key + 2 * self.now.row.number) % 2 ^ 64) }
+        ensures { result ≡ self.now.row.mutex.now.word }
     {
-        self.place().try_again(TryLock, 0, 1, word)
+        token.into_owner()
+    }
+
+    /// The right to this mutex and the key, for a token of it.
+    #[inline(always)]
+    pub(crate) fn parts(&self, token: MutexToken) -> (Owner, Key)
+        requires { number_of token.0 token.1 ≡ number_of self.now.row.mutex.now.word
+            ((self.now.row.table.now.first_key + 2 * self.now.row.number) % 2 ^ 64) }
+        ensures name { result.0 ≡ self.now.row.mutex.now.word }
+        ensures same { (result.0 ≡ token.0) × (result.1.value ≡ token.1) }
+        ensures key { token.1 % 2 ^ 64 ≡ (self.now.row.table.now.first_key + 2 * self.now.row.number) % 2 ^ 64 }
+    {
+        token.into_parts()
+    }
+
+    /// Two threads never hold this mutex: a program in which they did could go no further.
+    ///
+    /// ```text
+    /// raw.never_two(token, another);   // both of this mutex: nobody can have them
+    /// ```
+    pub fn never_two(&self, one: MutexToken, other: MutexToken)
+        requires one { number_of one.0 one.1 ≡ number_of self.now.row.mutex.now.word
+            ((self.now.row.table.now.first_key + 2 * self.now.row.number) % 2 ^ 64) }
+        requires other { number_of other.0 other.1 ≡ number_of self.now.row.mutex.now.word
+            ((self.now.row.table.now.first_key + 2 * self.now.row.number) % 2 ^ 64) }
+        ensures { ⊥ }
+    {
+        self.owner(one).never_two(self.owner(other));
     }
 }
 
 impl<'t, 'l, R: Wait, A: Allocator> RawMutex<'t, 'l, R, A> {
-    /// Asks until the mutex is owned.
-    fn own<K: Call>(&self, call: K, party: &mut ThreadData<A>)
-        ensures { Ended K.Core.told K.Core.asks K.begun Owned }
-    {
-        for _call in self.runtime().forever() {
-            if self.place().ask(call, party) == CoreAnswer::Owned {
-                return;
-            }
-        }
-        unreachable!()
-    }
-
     /// Waits until the mutex is owned, or until the moment by the clock that is handed in: then it is off the list, and
     /// `None` is the answer.
     ///
@@ -101,14 +119,17 @@ impl<'t, 'l, R: Wait, A: Allocator> RawMutex<'t, 'l, R, A> {
         clock: &C,
         party: &mut ThreadData<A>,
     ) -> Option<MutexToken>
-        ensures issued { IfSome result
-            (λ token. token ≡ (self.now.row.table.now.first_key + 2 * self.now.row.number) % 2 ^ 64) }
+        ensures name { IfSome result (λ token. token.0 ≡ self.now.row.mutex.now.word) }
+        ensures key { IfSome result
+            (λ token. token.1 ≡ (self.now.row.table.now.first_key + 2 * self.now.row.number) % 2 ^ 64) }
         ensures call { MatchOption result (TimedEnded GivesUp) (λ _. OwnedInTime) }
     {
-        if self.locks_at_once() || self.place().ask_in_time(deadline, clock, party) {
-            Some(self.token())
-        } else {
-            None
+        match self.locks_at_once() {
+            Some(owner) => Some(self.token(owner)),
+            None => match self.ask_in_time(deadline, clock, party) {
+                Some(owner) => Some(self.token(owner)),
+                None => None,
+            },
         }
     }
 
@@ -124,41 +145,58 @@ impl<'t, 'l, R: Wait, A: Allocator> RawMutex<'t, 'l, R, A> {
         clock: &C,
         party: &mut ThreadData<A>,
     ) -> Option<MutexToken>
-        ensures issued { IfSome result
-            (λ token. token ≡ (self.now.row.table.now.first_key + 2 * self.now.row.number) % 2 ^ 64) }
+        ensures name { IfSome result (λ token. token.0 ≡ self.now.row.mutex.now.word) }
+        ensures key { IfSome result
+            (λ token. token.1 ≡ (self.now.row.table.now.first_key + 2 * self.now.row.number) % 2 ^ 64) }
         ensures call { MatchOption result (TimedEnded GivesUp) (λ _. OwnedInTime) }
     {
         match to_deadline(clock, timeout) {
             Some(deadline) => self.lock_until(deadline, clock, party),
-            None => Some(self.lock(party)),
+            None => Some(self.token(self.owns(party))),
+        }
+    }
+
+    /// Waits until the mutex is owned.
+    #[inline(always)]
+    pub(crate) fn owns(&self, party: &mut ThreadData<A>) -> Owner
+        ensures name { result ≡ self.now.row.mutex.now.word }
+        ensures ended { MutexEnded Locking Owned }
+    {
+        match self.locks_at_once() {
+            Some(owner) => owner,
+            None => self.lock_slowly(party),
         }
     }
 
     /// Asks for the mutex where it isn't had at once.
     #[cold]
     #[inline(never)]
-    fn lock_slowly(&self, party: &mut ThreadData<A>)
-        ensures { MutexEnded Locking Owned }
+    fn lock_slowly(&self, party: &mut ThreadData<A>) -> Owner
+        ensures name { result ≡ self.now.row.mutex.now.word }
+        ensures ended { MutexEnded Locking Owned }
     {
-        self.own(Lock, party);
+        let claim = self.word().no_claim();
+        self.owned_by(Lock, claim, party)
     }
 
     /// Lets those that wait go first.
     #[cold]
     #[inline(never)]
-    fn bump_slowly(&self, party: &mut ThreadData<A>)
-        ensures { MutexEnded Bumping Owned }
+    fn bump_slowly(&self, owner: Owner, party: &mut ThreadData<A>) -> Owner
+        requires { owner ≡ self.now.row.mutex.now.word }
+        ensures name { result ≡ self.now.row.mutex.now.word }
+        ensures ended { MutexEnded Bumping Owned }
     {
-        self.own(Bump, party);
+        self.owned_by(Bump, owner.into_claim(), party)
     }
 
-    /// Gives the mutex up at this word, where threads may sleep.
-    #[cold]
-    #[inline(never)]
-    fn unlock_slowly<K: Call>(&self, call: K, word: u64)
-        ensures { (answer : CoreAnswer) × Ended K.Core.told K.Core.asks K.begun answer }
+    /// Gives the mutex up.
+    pub(crate) fn unlocks(&self, owner: Owner)
+        requires { owner ≡ self.now.row.mutex.now.word }
     {
-        self.place().give_up(call, ActResult::Word(word));
+        if let Err(owner) = self.gives_up_at_once(Unlock, owner) {
+            self.give_up(Unlock, owner);
+        }
     }
 }
 
@@ -184,9 +222,10 @@ impl<'t, 'l, R, A: Allocator> lock_api_raw::RawMutex for RawMutex<'t, 'l, R, A> 
 
     type Guard = MutexToken;
 
-    ghost number = { λ mutex. (mutex.row.table.now.first_key + 2 * mutex.row.number) % 2 ^ 64 };
+    ghost number = { λ mutex. number_of mutex.row.mutex.now.word
+        ((mutex.row.table.now.first_key + 2 * mutex.row.number) % 2 ^ 64) };
 
-    ghost issued_by = { λ token. token };
+    ghost issued_by = { λ token. number_of token.0 token.1 };
 
     ghost runtime_of = { λ mutex. mutex.row.table.now.lot.now.rt };
 
@@ -205,21 +244,21 @@ impl<'t, 'l, R, A: Allocator> lock_api_raw::RawMutex for RawMutex<'t, 'l, R, A> 
     where
         R: Wait,
     {
-        if self.locks_at_once() {
-            return self.token();
+        match self.locks_at_once() {
+            Some(owner) => self.token(owner),
+            None => self.token(self.lock_slowly(party)),
         }
-        self.lock_slowly(party);
-        self.token()
     }
 
     #[inline(always)]
     fn try_lock(&self) -> Option<MutexToken> {
-        if let Err(word) = self.row.tries_at_once(TryLock, 0, 1) {
-            if !self.try_slowly(word) {
-                return None;
-            }
+        match self.tries_at_once() {
+            Ok(owner) => Some(self.token(owner)),
+            Err(word) => match self.try_slowly(word) {
+                Some(owner) => Some(self.token(owner)),
+                None => None,
+            },
         }
-        Some(self.token())
     }
 
     #[inline(always)]
@@ -227,14 +266,13 @@ impl<'t, 'l, R, A: Allocator> lock_api_raw::RawMutex for RawMutex<'t, 'l, R, A> 
     where
         R: Wait,
     {
-        guard.spend();
-        if let Err(word) = self.row.ends_at_once(Unlock, 1, 0) {
-            self.unlock_slowly(Unlock, word);
+        if let Err(owner) = self.gives_up_at_once(Unlock, self.owner(guard)) {
+            self.give_up(Unlock, owner);
         }
     }
 
     fn is_locked(&self) -> bool {
-        self.row.load() % 2 == 1
+        self.word().load() % 2 == 1
     }
 }
 
@@ -248,9 +286,8 @@ impl<'t, 'l, R, A: Allocator> RawMutexFair for RawMutex<'t, 'l, R, A> {
     where
         R: Wait,
     {
-        guard.spend();
-        if let Err(word) = self.row.ends_at_once(UnlockFairly, 1, 0) {
-            self.unlock_slowly(UnlockFairly, word);
+        if let Err(owner) = self.gives_up_at_once(UnlockFairly, self.owner(guard)) {
+            self.give_up(UnlockFairly, owner);
         }
     }
 
@@ -259,10 +296,10 @@ impl<'t, 'l, R, A: Allocator> RawMutexFair for RawMutex<'t, 'l, R, A> {
     where
         R: Wait,
     {
-        if !self.row.owns_as_it_is(Bump, 2) {
-            self.bump_slowly(party);
+        if self.owns_as_it_is() {
+            return guard;
         }
-        guard
+        self.token(self.bump_slowly(self.owner(guard), party))
     }
 }
 

@@ -3,7 +3,8 @@ ghost use Rattle.std.specs.Prelude.{◌≡◌};
 ghost use Rattle.parking_lot_mutex.specs.Condvar.Calls.{Notified};
 ghost use Rattle.parking_lot_protocol_waits.specs.NotifyTable.{notify_asks};
 
-use crate::condvar::raw_condvar::{RawCondvar, stuck};
+use crate::condvar::raw_condvar::RawCondvar;
+use crate::stuck::stuck;
 use parking_lot_core::{DEFAULT_UNPARK_TOKEN, RequeueOp, UnparkResult, unpark_requeue};
 use parking_lot_protocol::timed::Course;
 use parking_lot_protocol_waits::{NotifyAct, NotifyCore, NotifySeen};

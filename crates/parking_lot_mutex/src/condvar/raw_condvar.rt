@@ -5,19 +5,18 @@ ghost use Rattle.parking_lot_mutex.specs.Condvar.Calls.{WaitedInTime, WaitRan};
 ghost use Rattle.parking_lot_protocol_waits.specs.declared.wait_core.WaitPhase.TheVariants.{Stranger};
 
 use crate::condvar::clock::StillClock;
+use crate::raw_mutex::announce;
+use crate::stuck::stuck;
 use crate::token::MutexToken;
 use crate::{LockTable, RawMutex, Row, to_deadline};
 use lock_api_raw::{MakeCondvar, RawCondvarTimed, TableFull, WaitFault};
+use lock_word::Owner;
 use parking_lot_core::ThreadData;
 use parking_lot_protocol_waits::WaitAnswer;
 use std::alloc::{Allocator, Global};
-use std::convert::Infallible;
 use std::sync;
 use std::sync::Wait;
 use std::time::{Clock, Duration, Instant};
-
-/// The bit of a mutex's word that is set where threads may sleep.
-const PARKED: u64 = 2;
 
 /// A condition variable on one row of a lock table, for mutexes of the table's lot.
 ///
@@ -84,43 +83,52 @@ impl<'t, 'l, R: Wait, A: Allocator> RawCondvar<'t, 'l, R, A> {
     fn untimed(
         &self,
         mutex: &RawMutex<'t, 'l, R, A>,
+        owner: Owner,
         party: &mut ThreadData<A>,
-    ) -> Result<(), WaitFault>
-        ensures ran { Waited ((mutex.now.row.table.now.first_key + 2 * mutex.now.row.number) % 2 ^ 64) result }
+    ) -> (Owner, Result<(), WaitFault>)
+        requires owner { owner ≡ mutex.now.row.mutex.now.word }
+        ensures owner { result.0 ≡ mutex.now.row.mutex.now.word }
+        ensures ran { Waited ((mutex.now.row.table.now.first_key + 2 * mutex.now.row.number) % 2 ^ 64) result.1 }
         ensures lot { IsOfLotWhere (self.now.row.table.now.lot.now.number == mutex.now.row.table.now.lot.now.number)
-            result }
+            result.1 }
     {
         if !self.is_of_lot(mutex) {
-            return Err(self.refusal());
+            return (owner, Err(self.refusal()));
         }
-        match self.wait_by(mutex, party, None::<(Instant, &StillClock)>) {
+        let (owner, ended) = self.wait_by(mutex, owner, party, None::<(Instant, &StillClock)>);
+        let answer = match ended {
             WaitAnswer::Woken => Ok(()),
             WaitAnswer::WrongMutex => Err(WaitFault::WrongMutex),
             WaitAnswer::TimedOut | WaitAnswer::WrongLot => match stuck(self.runtime()) {},
-        }
+        };
+        (owner, answer)
     }
 
     /// Waits with a mutex up to the moment, if that is of this lot, and answers whether it timed out.
     fn in_time<C: Clock>(
         &self,
         mutex: &RawMutex<'t, 'l, R, A>,
-        deadline: Instant,
-        clock: &C,
+        owner: Owner,
+        until: (Instant, &C),
         party: &mut ThreadData<A>,
-    ) -> Result<bool, WaitFault>
-        ensures ran { WaitedInTime ((mutex.now.row.table.now.first_key + 2 * mutex.now.row.number) % 2 ^ 64) result }
+    ) -> (Owner, Result<bool, WaitFault>)
+        requires owner { owner ≡ mutex.now.row.mutex.now.word }
+        ensures owner { result.0 ≡ mutex.now.row.mutex.now.word }
+        ensures ran { WaitedInTime ((mutex.now.row.table.now.first_key + 2 * mutex.now.row.number) % 2 ^ 64) result.1 }
         ensures lot { IsOfLotWhere (self.now.row.table.now.lot.now.number == mutex.now.row.table.now.lot.now.number)
-            result }
+            result.1 }
     {
         if !self.is_of_lot(mutex) {
-            return Err(self.refusal());
+            return (owner, Err(self.refusal()));
         }
-        match self.wait_by(mutex, party, Some((deadline, clock))) {
+        let (owner, ended) = self.wait_by(mutex, owner, party, Some(until));
+        let answer = match ended {
             WaitAnswer::Woken => Ok(false),
             WaitAnswer::TimedOut => Ok(true),
             WaitAnswer::WrongMutex => Err(WaitFault::WrongMutex),
             WaitAnswer::WrongLot => match stuck(self.runtime()) {},
-        }
+        };
+        (owner, answer)
     }
 
     /// Why a wait with a mutex of another lot is refused.
@@ -133,33 +141,6 @@ impl<'t, 'l, R: Wait, A: Allocator> RawCondvar<'t, 'l, R, A> {
             WaitAnswer::Woken | WaitAnswer::TimedOut => match stuck(self.runtime()) {},
         }
     }
-}
-
-/// Sets the parked bit of a mutex's word, where it is locked or always, and answers whether it is locked.
-fn announce<R: Wait, A: Allocator>(row: &Row<'_, '_, R, A>, always: bool) -> bool {
-    let mut word = row.load();
-    for _loss in row.lot().runtime().forever() {
-        let locked = word % 2 == 1;
-        if !locked && !always {
-            return false;
-        }
-        match row.exchange(word, word | PARKED) {
-            Ok(()) => return locked,
-            Err(seen) => word = seen,
-        }
-    }
-    unreachable!()
-}
-
-/// Masks the parked bit off a mutex's word.
-pub(crate) fn unmark<R, A: Allocator>(mutex: &RawMutex<'_, '_, R, A>) {
-    mutex.row().mask(!PARKED);
-}
-
-/// Waits for ever: for what can't come about, since a call's acts give what it was told.
-pub(crate) fn stuck<R: Wait>(rt: &R) -> Infallible {
-    for _turn in rt.forever() {}
-    unreachable!()
 }
 
 impl<'t, 'l, R, A: Allocator> MakeCondvar<&'t LockTable<'l, R, A>> for RawCondvar<'t, 'l, R, A> {
@@ -176,7 +157,7 @@ impl<'t, 'l, R, A: Allocator> lock_api_raw::RawCondvar for RawCondvar<'t, 'l, R,
 
     ghost same_lot = { λ condvar mutex. condvar.row.table.now.lot.now.number == mutex.row.table.now.lot.now.number };
 
-    ghost waited = { λ _ before _ answer. Waited before answer };
+    ghost waited = { λ _ before _ answer. Waited (before.1 % 2 ^ 64) answer };
 
     ghost notified_one = { λ _ taken. NotifiedOne taken };
 
@@ -191,8 +172,9 @@ impl<'t, 'l, R, A: Allocator> lock_api_raw::RawCondvar for RawCondvar<'t, 'l, R,
     where
         R: Wait,
     {
-        let answer = self.untimed(mutex, party);
-        (guard, answer)
+        let (owner, key) = mutex.parts(guard);
+        let (owner, answer) = self.untimed(mutex, owner, party);
+        (MutexToken::of(owner, key), answer)
     }
 
     fn notify_one(&self) -> bool
@@ -211,7 +193,7 @@ impl<'t, 'l, R, A: Allocator> lock_api_raw::RawCondvar for RawCondvar<'t, 'l, R,
 }
 
 impl<'t, 'l, R, A: Allocator> RawCondvarTimed for RawCondvar<'t, 'l, R, A> {
-    ghost waited_in_time = { λ _ before _ answer. WaitedInTime before answer };
+    ghost waited_in_time = { λ _ before _ answer. WaitedInTime (before.1 % 2 ^ 64) answer };
 
     fn wait_until<C: Clock>(
         &self,
@@ -224,8 +206,9 @@ impl<'t, 'l, R, A: Allocator> RawCondvarTimed for RawCondvar<'t, 'l, R, A> {
     where
         R: Wait,
     {
-        let answer = self.in_time(mutex, deadline, clock, party);
-        (guard, answer)
+        let (owner, key) = mutex.parts(guard);
+        let (owner, answer) = self.in_time(mutex, owner, (deadline, clock), party);
+        (MutexToken::of(owner, key), answer)
     }
 
     fn wait_for<C: Clock>(
@@ -239,11 +222,15 @@ impl<'t, 'l, R, A: Allocator> RawCondvarTimed for RawCondvar<'t, 'l, R, A> {
     where
         R: Wait,
     {
-        let answer = match to_deadline(clock, timeout) {
-            Some(deadline) => self.in_time(mutex, deadline, clock, party),
-            None => self.untimed(mutex, party).map(|()| false),
+        let (owner, key) = mutex.parts(guard);
+        let (owner, answer) = match to_deadline(clock, timeout) {
+            Some(deadline) => self.in_time(mutex, owner, (deadline, clock), party),
+            None => {
+                let (owner, answer) = self.untimed(mutex, owner, party);
+                (owner, answer.map(|()| false))
+            }
         };
-        (guard, answer)
+        (MutexToken::of(owner, key), answer)
     }
 
     fn checked_duration_to_instant<C: Clock>(clock: &C, timeout: Duration) -> Option<Instant> {

@@ -8,10 +8,12 @@ ghost use Rattle.parking_lot_protocol_waits.specs.declared.wait_act.WaitSeen.The
 ghost use Rattle.parking_lot_protocol_waits.specs.declared.wait_core.WaitPhase.TheVariants.{Stranger, GivingWay};
 
 use crate::RawMutex;
-use crate::condvar::raw_condvar::{RawCondvar, stuck, unmark};
-use crate::token::MutexToken;
-use lock_api_raw::RawMutex as _;
+use crate::condvar::raw_condvar::RawCondvar;
+use crate::raw_mutex::PARKED;
+use crate::stuck::stuck;
+use lock_word::Owner;
 use parking_lot_core::{DEFAULT_PARK_TOKEN, ParkResult, ThreadData, park, thread_yield};
+use parking_lot_driver::SectionWord;
 use parking_lot_protocol::timed::Course;
 use parking_lot_protocol_waits::{WaitAct, WaitAnswer, WaitCore, WaitSeen};
 use std::alloc::Allocator;
@@ -19,14 +21,9 @@ use std::cell::Cell;
 use std::sync::Wait;
 use std::time::{Clock, Instant};
 
-/// Gives a mutex up, whose token the caller keeps.
+/// Gives a mutex up, whose right was left with it.
 fn release<R: Wait, A: Allocator>(mutex: &RawMutex<'_, '_, R, A>) {
-    mutex.unlock(MutexToken::new(mutex.row().first_key() as u64));
-}
-
-/// Waits for a mutex again, whose token the caller has kept.
-fn relock<R: Wait, A: Allocator>(mutex: &RawMutex<'_, '_, R, A>, party: &mut ThreadData<A>) {
-    mutex.lock(party).spend();
+    mutex.unlocks(mutex.pick_up());
 }
 
 /// Whether a call that sees this word in the section joins the list.
@@ -85,25 +82,32 @@ impl<'t, 'l, R: Wait, A: Allocator> RawCondvar<'t, 'l, R, A> {
     pub(crate) fn wait_by<C: Clock>(
         &self,
         mutex: &RawMutex<'t, 'l, R, A>,
+        owner: Owner,
         party: &mut ThreadData<A>,
         timeout: Option<(Instant, &C)>,
-    ) -> WaitAnswer
-        ensures { WaitEnded ((mutex.now.row.table.now.first_key + 2 * mutex.now.row.number) % 2 ^ 64) result }
+    ) -> (Owner, WaitAnswer)
+        requires { owner ≡ mutex.now.row.mutex.now.word }
+        ensures owner { result.0 ≡ mutex.now.row.mutex.now.word }
+        ensures ended { WaitEnded ((mutex.now.row.table.now.first_key + 2 * mutex.now.row.number) % 2 ^ 64) result.1 }
     {
         if !self.row().lot().same_lot(party) {
-            return self.give_way(mutex, party);
+            return self.give_way(mutex, owner, party);
         }
         let mut course = Course::begin(WaitCore::wait(mutex.row().first_key() as u64));
         course.tell(WaitSeen::Made);
+        mutex.leave(owner);
         self.sleep(&mut course, mutex, party, timeout);
-        if course.act() == WaitAct::LocksMutex {
-            relock(mutex, party);
+        let owner = if course.act() == WaitAct::LocksMutex {
             course.tell(WaitSeen::Made);
-        }
-        self.end(&course)
+            mutex.owns(party)
+        } else {
+            mutex.pick_up()
+        };
+        (owner, self.end(&course))
     }
 
-    /// Sleeps until it is notified, or the moment passes, unless another mutex is shown.
+    /// Sleeps until it is notified, or the moment passes, unless another mutex is shown. The right to the mutex was
+    /// left with it.
     fn sleep<C: Clock>(
         &self,
         course: &mut Course<WaitCore>,
@@ -137,7 +141,7 @@ impl<'t, 'l, R: Wait, A: Allocator> RawCondvar<'t, 'l, R, A> {
                 was_last.set(last);
                 match goes(before, word.get(), is_here.get(), last) {
                     WaitAct::Forgets => self.forget(),
-                    WaitAct::MasksMutex => unmark(mutex),
+                    WaitAct::MasksMutex => mutex.clear(PARKED),
                     _ => {}
                 }
             },
@@ -149,16 +153,23 @@ impl<'t, 'l, R: Wait, A: Allocator> RawCondvar<'t, 'l, R, A> {
     }
 
     /// A wait of a thread that can't sleep here: it gives the mutex up, lets others run, and locks it again.
-    fn give_way(&self, mutex: &RawMutex<'t, 'l, R, A>, party: &mut ThreadData<A>) -> WaitAnswer
-        ensures { WaitRan GivingWay result }
+    fn give_way(
+        &self,
+        mutex: &RawMutex<'t, 'l, R, A>,
+        owner: Owner,
+        party: &mut ThreadData<A>,
+    ) -> (Owner, WaitAnswer)
+        requires { owner ≡ mutex.now.row.mutex.now.word }
+        ensures owner { result.0 ≡ mutex.now.row.mutex.now.word }
+        ensures ended { WaitRan GivingWay result.1 }
     {
         let mut course = Course::begin(WaitCore::give_way());
-        release(mutex);
+        mutex.unlocks(owner);
         course.tell(WaitSeen::Made);
         thread_yield();
-        relock(mutex, party);
+        let owner = mutex.owns(party);
         course.tell(WaitSeen::Made);
-        self.end(&course)
+        (owner, self.end(&course))
     }
 
     /// Refuses a wait with a mutex of another lot: where somebody waits, as one with another mutex.

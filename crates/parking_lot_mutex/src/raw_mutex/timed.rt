@@ -1,23 +1,21 @@
-//! Whole calls of a mutex that may give up: their decision core is run on a row.
-ghost use Rattle.std.specs.Prelude.{◌≡◌, MatchBool};
+//! Calls of a mutex that may give up.
+ghost use Rattle.std.specs.Prelude.{◌≡◌, IfSome, MatchOption};
 ghost use Rattle.parking_lot_driver.specs.Ends.{TimedEnded};
+ghost use Rattle.parking_lot_protocol.specs.Timed.TimedTable.{timed_asks};
 ghost use Rattle.parking_lot_protocol.specs.declared.act.Act.TheVariants.{Done};
 ghost use Rattle.parking_lot_protocol.specs.declared.act.CoreAnswer.TheVariants.{Owned};
-ghost use Rattle.parking_lot_protocol.specs.Timed.TimedTable.{timed_asks};
 ghost use Rattle.parking_lot_protocol.specs.declared.timed.timed_act.TimedAct.TheVariants.{Makes, GivesUp};
 
-use crate::place::Place;
-use crate::timed_sleep::InTime;
+use crate::raw_mutex::{PARKED, RawMutex};
+use lock_word::Owner;
 use parking_lot_core::{SpinWait, ThreadData, thread_yield};
+use parking_lot_driver::{InTime, sleep_in_time};
 use parking_lot_protocol::timed::{Course, TimedAct, TimedMutexCore, TimedSeen};
 use parking_lot_protocol::{Act, ActResult, CoreAnswer};
 use std::alloc::{AllocError, Allocator};
 use std::marker::Model;
 use std::sync::Wait;
 use std::time::{Clock, Instant};
-
-/// The bit of a mutex's word that is set where threads may sleep.
-const PARKED: u64 = 2;
 
 /// A call for a mutex that has begun, and may give up.
 #[derive(Copy)]
@@ -79,16 +77,20 @@ impl InTime for TimedLock {
     }
 }
 
-impl<R: Wait, A: Allocator> Place<'_, '_, '_, R, A> {
-    /// Runs a call that may give up to its end, and answers whether it owns the mutex.
+impl<R: Wait, A: Allocator> RawMutex<'_, '_, R, A> {
+    /// Runs a call that may give up to its end, and answers the owner, if it owns the mutex then.
+    ///
+    /// A right that it wins by an exchange it leaves in the second word, as a hand-over does, and picks it up there
+    /// once its core has come to its end.
     #[inline(never)]
-    pub fn ask_in_time<C: Clock>(
+    pub(super) fn ask_in_time<C: Clock>(
         &self,
         deadline: Instant,
         clock: &C,
         party: &mut ThreadData<A>,
-    ) -> bool
-        ensures { MatchBool result (TimedEnded (Makes (Done Owned))) (TimedEnded GivesUp) }
+    ) -> Option<Owner>
+        ensures owner { IfSome result (λ owner. owner ≡ self.now.row.mutex.now.word) }
+        ensures ended { MatchOption result (TimedEnded GivesUp) (λ _. TimedEnded (Makes (Done Owned))) }
     {
         let mut spin = SpinWait::new();
         let mut call = TimedLock::begin();
@@ -96,14 +98,14 @@ impl<R: Wait, A: Allocator> Place<'_, '_, '_, R, A> {
             match call.asked() {
                 TimedAct::GivesUp => {
                     call.ended();
-                    return false;
+                    return None;
                 }
                 TimedAct::Makes(Act::Done(CoreAnswer::Owned)) => {
                     call.ended();
-                    return true;
+                    return Some(self.pick_up());
                 }
                 TimedAct::Makes(act) => {
-                    self.make_in_time(&mut call, act, &mut spin, deadline, clock, party);
+                    self.make_in_time(&mut call, act, &mut spin, (deadline, clock), party);
                 }
                 _ => thread_yield(),
             }
@@ -117,8 +119,7 @@ impl<R: Wait, A: Allocator> Place<'_, '_, '_, R, A> {
         call: &mut TimedLock,
         act: Act,
         spin: &mut SpinWait,
-        deadline: Instant,
-        clock: &C,
+        until: (Instant, &C),
         party: &mut ThreadData<A>,
     ) {
         let seen = match act {
@@ -127,11 +128,40 @@ impl<R: Wait, A: Allocator> Place<'_, '_, '_, R, A> {
                 spin.reset();
                 ActResult::Entered
             }
-            act => self.after(act),
+            act => self.seen_at(act),
         };
         call.told(TimedSeen::Plain(seen));
         if matches!(act, Act::Enter(_)) {
-            self.sleep_in_time(call, self.row.first_key(), deadline, clock, party);
+            sleep_in_time(
+                self.row.lot(),
+                self.row.first_key(),
+                self,
+                call,
+                until,
+                party,
+            );
+        }
+    }
+
+    /// Makes an act at the word of a call that owns nothing, and tells what it gave. A right that it wins is left in
+    /// the second word.
+    fn seen_at(&self, act: Act) -> ActResult {
+        match act {
+            Act::Load => ActResult::Word(self.word().load()),
+            Act::Exchange(from, to) if from % 2 == to % 2 => match self.word().change(from, to) {
+                Ok(()) => ActResult::Exchanged,
+                Err(word) => ActResult::Word(word),
+            },
+            Act::Exchange(from, to) if from % 2 == 0 && to % 2 == 1 => {
+                match self.word().acquire(from, to) {
+                    Ok(owner) => {
+                        self.leave(owner);
+                        ActResult::Exchanged
+                    }
+                    Err(word) => ActResult::Word(word),
+                }
+            }
+            _ => ActResult::Made,
         }
     }
 }
