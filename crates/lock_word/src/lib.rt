@@ -19,10 +19,22 @@
 
 mod claim;
 mod handoff;
+mod held;
 mod lock_word;
 mod owner;
+mod rights_word;
+mod shared_claim;
+mod shared_handoff;
+mod shared_rights;
+mod shared_word;
+mod steps;
 
 pub use claim::Claim;
 pub use handoff::HandoffWord;
+pub use held::Held;
 pub use lock_word::LockWord;
 pub use owner::Owner;
+pub use shared_claim::SharedClaim;
+pub use shared_handoff::{EXCLUSIVE, PENDING, READER, SharedHandoff, UPGRADABLE};
+pub use shared_rights::{Exclusive, Pending, Reader, Upgradable};
+pub use shared_word::SharedWord;

@@ -17,26 +17,37 @@ mod call;
 mod clock;
 mod deadline;
 mod decision;
+mod handed;
+mod key;
 mod looking;
 mod place;
+mod plain_place;
 mod run;
 mod section;
+mod shared_section;
+mod stuck;
 mod table;
 mod timed_call;
 mod timed_rw_run;
 mod timed_sleep;
 mod told;
 mod tries;
+mod try_call;
 mod under_way;
 mod upgrade_call;
 mod whole_call;
 
+pub use at_once::{
+    ended_after_a_load, ended_at_once, ended_by_sum, owned_after_a_look, owned_as_it_is,
+    owned_by_sum,
+};
 pub use call::{
     Bump, BumpReader, BumpWriter, Call, Downgrade, Lock, Read, StopReading, StopWriting,
     StopWritingFairly, TryLock, TryRead, TryWrite, Unlock, UnlockFairly, Write,
 };
 pub use deadline::to_deadline;
 pub use decision::DecisionCore;
+pub use key::Key;
 pub use parking_lot_protocol::{
     Act, ActResult, CoreAnswer, MutexCore, RwCore, SectionAct, WordChange, wake_sum,
 };
@@ -46,6 +57,8 @@ pub use table::{LockTable, Row};
 pub use timed_call::{AskUpgradablyInTime, ReadInTime, TimedCall, UpgradeInTime, WriteInTime};
 pub use timed_sleep::{InTime, sleep_in_time};
 pub use told::Run;
+pub use tries::admitted_at_once;
+pub use try_call::TryCall;
 pub use under_way::UnderWay;
 pub use upgrade_call::{
     AskUpgradably, BumpUpgradable, Disown, DisownFairly, DowngradeToShared, DowngradeToUpgradable,

@@ -2,7 +2,6 @@
 
 use crate::clock::StillClock;
 use crate::looking::Looking;
-use crate::place::Place;
 use crate::under_way::UnderWay;
 use parking_lot_core::{
     DEFAULT_PARK_TOKEN, ParkResult, ParkToken, ParkingLot, ThreadData, UnparkToken, park,
@@ -121,7 +120,7 @@ pub fn wake_first<R: Wait, A: Allocator, W: SectionWord, U: UnderWay>(
 }
 
 /// Takes the waiters of a key in order, as far as the call lets them go, and wakes them.
-fn wake_in_order<R: Wait, A: Allocator, W: SectionWord, U: UnderWay>(
+pub(crate) fn wake_in_order<R: Wait, A: Allocator, W: SectionWord, U: UnderWay>(
     lot: &ParkingLot<R, A>,
     key: usize,
     at: &W,
@@ -160,51 +159,6 @@ fn store<W: SectionWord, U: UnderWay>(at: &W, run: &mut U, be_fair: bool) {
         }
         act => {
             run.tell(at.made(act));
-        }
-    }
-}
-
-impl<R: Wait, A: Allocator> SectionWord for Place<'_, '_, '_, R, A> {
-    fn load(&self) -> u64 {
-        self.row.load()
-    }
-
-    fn change(&self, change: WordChange) {
-        let mut word = self.row.load();
-        for _loss in self.row.lot().runtime().forever() {
-            match self.row.exchange(word, change.of(word)) {
-                Ok(()) => return,
-                Err(seen) => word = seen,
-            }
-        }
-        unreachable!()
-    }
-
-    fn clear(&self, bit: u64) {
-        self.row.mask(!bit);
-    }
-
-    fn made(&self, act: Act) -> ActResult {
-        self.after(act)
-    }
-}
-
-impl<R: Wait, A: Allocator> Place<'_, '_, '_, R, A> {
-    /// Goes through the section that the call enters, and sleeps if it is to.
-    pub(crate) fn enter<U: UnderWay>(&self, run: &mut U, key: u8, party: &mut ThreadData<A>) {
-        match run.tell(ActResult::Entered) {
-            Act::Section(SectionAct::Check) => {
-                sleep(self.row.lot(), self.key(key), self, run, party);
-            }
-            _ => self.wake(run, self.key(key)),
-        }
-    }
-
-    /// Goes through a section in which others are woken, from its first act on.
-    pub(crate) fn wake<U: UnderWay>(&self, run: &mut U, key: usize) {
-        match run.act() {
-            Act::Section(SectionAct::TakeFirst) => wake_first(self.row.lot(), key, self, run),
-            _ => wake_in_order(self.row.lot(), key, self, run),
         }
     }
 }

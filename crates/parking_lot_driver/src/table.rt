@@ -1,11 +1,11 @@
 //! A table of lock words.
 ghost use Rattle.std.specs.Prelude.{◌≡◌, ◌≢◌, ◌<◌, ◌+◌, ◌*◌, ◌%◌, ◌^◌, ◌↔◌, ◌⊎◌, IsTrue, IsSome, IsErrOf, IfOk, IfErr};
-ghost use Rattle.std.specs.Prelude.{MatchResult, length};
+ghost use Rattle.std.specs.Prelude.{MatchResult, length, ◌==◌, if◌then◌else◌};
 ghost use Rattle.parking_lot_core_model.specs.declared.fault.SizeFault.TheVariants.{BadSize, NoMemory};
 
 use crossbeam_utils::CachePadded;
 use lock_api_raw::TableFull;
-use lock_word::HandoffWord;
+use lock_word::{HandoffWord, SharedHandoff};
 use parking_lot_core::{ParkingLot, SizeFault};
 use std::alloc::{Allocator, Global};
 use std::sync::atomic::{AtomicU64, AtomicUsize, Ordering};
@@ -35,12 +35,13 @@ pub struct LockTable<'l, R, A: Allocator = Global> {
     ghost few: { (0 < length words.items) × (length words.items < 2 ^ 20 + 1) },
 }
 
-/// The words of a row: one that anybody may change, and those of a mutex, with which the right to it lies. A row is
-/// one lock's, so one of both stays 0.
+/// The words of a row: one that anybody may change, those of a mutex, with which the right to it lies, and those of a
+/// reader-writer lock, with which the rights to that lie. A row is one lock's, so all but one of them stay 0.
 #[derive(Drop)]
 struct Words {
     word: AtomicU64,
     mutex: HandoffWord,
+    shared: SharedHandoff,
 }
 
 impl Words {
@@ -49,19 +50,21 @@ impl Words {
         Words {
             word: AtomicU64::new(0),
             mutex: HandoffWord::new(),
+            shared: SharedHandoff::new(),
         }
     }
 
     /// Loads the word of the lock that has the row.
     fn load(&self) -> u64 {
-        self.word.load(Ordering::SeqCst) | self.mutex.word().load()
+        self.word.load(Ordering::SeqCst) | self.mutex.word().load() | self.shared.word().load()
     }
 }
 
 /// One row of a table, owned by one lock.
 ///
 /// Its word is reached by atomic steps alone, each in the one order that all threads see. Of the word nothing is known
-/// but what a step has just seen. A mutex has the words with which the right to it lies ([`Row::mutex`]) in its place.
+/// but what a step has just seen. A mutex has the words with which the right to it lies ([`Row::mutex`]) in its place,
+/// and a reader-writer lock those with which its rights lie ([`Row::shared`]).
 #[derive(Drop)]
 pub struct Row<'t, 'l, R, A: Allocator = Global> {
     table: &'t LockTable<'l, R, A>,
@@ -70,6 +73,8 @@ pub struct Row<'t, 'l, R, A: Allocator = Global> {
     word: &'t AtomicU64,
     /// The words of a mutex, likewise.
     mutex: &'t HandoffWord,
+    /// Those of a reader-writer lock, likewise.
+    shared: &'t SharedHandoff,
     ghost within: { number < length table.now.words.items },
 }
 
@@ -125,6 +130,7 @@ impl<'l, R, A: Allocator> LockTable<'l, R, A> {
             number,
             word: &words.word,
             mutex: &words.mutex,
+            shared: &words.shared,
         })
     }
 
@@ -156,12 +162,14 @@ impl<'t, 'l, R, A: Allocator> Row<'t, 'l, R, A> {
         ensures table { result.table.now ≡ self.now.table.now }
         ensures number { result.number ≡ self.now.number }
         ensures mutex { result.mutex.now ≡ self.now.mutex.now }
+        ensures shared { result.shared.now ≡ self.now.shared.now }
     {
         Row {
             table: self.table,
             number: self.number,
             word: self.word,
             mutex: self.mutex,
+            shared: self.shared,
         }
     }
 
@@ -171,6 +179,14 @@ impl<'t, 'l, R, A: Allocator> Row<'t, 'l, R, A> {
         ensures { result.now ≡ self.now.mutex.now }
     {
         self.mutex
+    }
+
+    /// The words of a reader-writer lock that has the row. In a clause the first of them is the name of the lock.
+    #[inline(always)]
+    pub fn shared(&self) -> &SharedHandoff
+        ensures { result.now ≡ self.now.shared.now }
+    {
+        self.shared
     }
 
     /// Its place in the table.
@@ -192,6 +208,18 @@ impl<'t, 'l, R, A: Allocator> Row<'t, 'l, R, A> {
         ensures { result ≡ (self.now.table.now.first_key + 2 * self.now.number + 1) % 2 ^ 64 }
     {
         self.table.first_key.wrapping_add(2 * self.number + 1)
+    }
+
+    /// The key of that number: 0 is the first, 1 the second.
+    pub(crate) fn key(&self, number: u8) -> usize
+        ensures { result ≡ (if number == 0 then (self.now.table.now.first_key + 2 * self.now.number) % 2 ^ 64 else
+            (self.now.table.now.first_key + 2 * self.now.number + 1) % 2 ^ 64) }
+    {
+        if number == 0 {
+            self.first_key()
+        } else {
+            self.second_key()
+        }
     }
 
     /// The table's lot.

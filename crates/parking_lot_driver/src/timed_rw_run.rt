@@ -5,10 +5,13 @@ ghost use Rattle.parking_lot_protocol.specs.declared.act.Act.TheVariants.{Done};
 ghost use Rattle.parking_lot_protocol.specs.declared.act.CoreAnswer.TheVariants.{Owned};
 ghost use Rattle.parking_lot_protocol.specs.declared.timed.timed_act.TimedAct.TheVariants.{Makes, GivesUp};
 
+use crate::handed::Handed;
 use crate::place::Place;
+use crate::shared_section::SharedSection;
 use crate::timed_call::{TimedCall, TimedRun};
 use crate::timed_sleep::sleep_in_time;
 use crate::under_way::UnderWay;
+use lock_word::Held;
 use parking_lot_core::{SpinWait, ThreadData, thread_yield};
 use parking_lot_protocol::timed::TimedAct;
 use parking_lot_protocol::{Act, ActResult, CoreAnswer, SectionAct};
@@ -21,13 +24,16 @@ impl<R: Wait, A: Allocator> Place<'_, '_, '_, R, A> {
     pub fn own_in_time<K: TimedCall, C: Clock>(
         &self,
         call: K,
+        had: Held,
         deadline: Instant,
         clock: &C,
         party: &mut ThreadData<A>,
-    ) -> bool
-        ensures { MatchBool result (TimedRwEnded K.begun (Makes (Done Owned))) (TimedRwEnded K.begun GivesUp) }
+    ) -> (bool, Held)
+        requires { had ≡ self.now.row.now.shared.now.word }
+        ensures end { MatchBool result.0 (TimedRwEnded K.begun (Makes (Done Owned))) (TimedRwEnded K.begun GivesUp) }
+        ensures name { result.1 ≡ self.now.row.now.shared.now.word }
     {
-        self.go_on_in_time(TimedRun::begin(call), deadline, clock, party)
+        self.go_on_in_time(TimedRun::begin(call), had, deadline, clock, party)
     }
 
     /// The same of a call whose first act was made: it is handed what that has given.
@@ -35,15 +41,18 @@ impl<R: Wait, A: Allocator> Place<'_, '_, '_, R, A> {
         &self,
         call: K,
         first: ActResult,
+        had: Held,
         deadline: Instant,
         clock: &C,
         party: &mut ThreadData<A>,
-    ) -> bool
-        ensures { MatchBool result (TimedRwEnded K.begun (Makes (Done Owned))) (TimedRwEnded K.begun GivesUp) }
+    ) -> (bool, Held)
+        requires { had ≡ self.now.row.now.shared.now.word }
+        ensures end { MatchBool result.0 (TimedRwEnded K.begun (Makes (Done Owned))) (TimedRwEnded K.begun GivesUp) }
+        ensures name { result.1 ≡ self.now.row.now.shared.now.word }
     {
         let mut run = TimedRun::begin(call);
         run.tell(first);
-        self.go_on_in_time(run, deadline, clock, party)
+        self.go_on_in_time(run, had, deadline, clock, party)
     }
 
     /// Runs a call that has begun to its end.
@@ -51,29 +60,33 @@ impl<R: Wait, A: Allocator> Place<'_, '_, '_, R, A> {
     fn go_on_in_time<K: TimedCall, C: Clock>(
         &self,
         begun: TimedRun<K>,
+        had: Held,
         deadline: Instant,
         clock: &C,
         party: &mut ThreadData<A>,
-    ) -> bool
-        ensures { MatchBool result (TimedRwEnded K.begun (Makes (Done Owned))) (TimedRwEnded K.begun GivesUp) }
+    ) -> (bool, Held)
+        requires { had ≡ self.now.row.now.shared.now.word }
+        ensures end { MatchBool result.0 (TimedRwEnded K.begun (Makes (Done Owned))) (TimedRwEnded K.begun GivesUp) }
+        ensures name { result.1 ≡ self.now.row.now.shared.now.word }
     {
         let mut run = begun;
+        let mut held = had;
         let mut spin = SpinWait::new();
         for _act in self.row.lot().runtime().forever() {
             match run.asked() {
                 TimedAct::GivesUp => {
                     run.ended();
-                    return false;
+                    return (false, held);
                 }
                 TimedAct::Makes(Act::Done(CoreAnswer::Owned)) => {
                     run.ended();
-                    return true;
+                    return (true, held);
                 }
                 TimedAct::Makes(Act::Enter(key)) => {
                     spin.reset();
-                    self.enter_in_time(&mut run, key, deadline, clock, party);
+                    held = self.enter_in_time(&mut run, key, held, (deadline, clock), party);
                 }
-                TimedAct::Makes(act) => self.make(&mut run, act, &mut spin),
+                TimedAct::Makes(act) => self.make_in_time(&mut run, act, &mut held, &mut spin),
                 _ => thread_yield(),
             }
         }
@@ -82,14 +95,23 @@ impl<R: Wait, A: Allocator> Place<'_, '_, '_, R, A> {
 
     /// Makes an act of a call that waits. Where a reader more may not be admitted it lets other threads run, and looks
     /// again.
-    fn make<K: TimedCall>(&self, run: &mut TimedRun<K>, act: Act, spin: &mut SpinWait) {
+    fn make_in_time<K: TimedCall>(
+        &self,
+        run: &mut TimedRun<K>,
+        act: Act,
+        held: &mut Held,
+        spin: &mut SpinWait,
+    )
+        requires { held.old ≡ self.now.row.now.shared.now.word }
+        ensures { held.new ≡ self.now.row.now.shared.now.word }
+    {
         let seen = match act {
             Act::Spin => ActResult::Spun(spin.spin()),
             act if self.is_full(act) => {
                 thread_yield();
-                ActResult::Word(self.row.load())
+                ActResult::Word(self.word().load())
             }
-            act => self.after(act),
+            act => self.make(act, held),
         };
         run.tell(seen);
     }
@@ -99,16 +121,23 @@ impl<R: Wait, A: Allocator> Place<'_, '_, '_, R, A> {
         &self,
         run: &mut TimedRun<K>,
         key: u8,
-        deadline: Instant,
-        clock: &C,
+        held: Held,
+        until: (Instant, &C),
         party: &mut ThreadData<A>,
-    ) {
-        let key = self.key(key);
+    ) -> Held
+        requires { held ≡ self.now.row.now.shared.now.word }
+        ensures { result ≡ self.now.row.now.shared.now.word }
+    {
+        let key = self.row.key(key);
         match run.tell(ActResult::Entered) {
             Act::Section(SectionAct::Check) => {
-                sleep_in_time(self.row.lot(), key, self, run, (deadline, clock), party);
+                let at = SharedSection::of(self, 0);
+                let mut call = Handed::of(*run);
+                sleep_in_time(self.row.lot(), key, &at, &mut call, until, party);
+                *run = call.run;
+                self.takes_up(call.share(), held)
             }
-            _ => self.wake(run, key),
+            _ => self.wake(run, key, held),
         }
     }
 }

@@ -1,5 +1,5 @@
 //! Tries: cores that wait for nobody.
-ghost use Rattle.std.specs.Prelude.{◌≡◌, ◌≢◌, ◌≤◌, ◌↔◌, IsTrue, IfOk, IfErr, true, false};
+ghost use Rattle.std.specs.Prelude.{◌≡◌, ◌≢◌, ◌≤◌, IfOk, IfErr};
 ghost use Rattle.parking_lot_driver.specs.Tries.{Admitted, Refused, WasToldOf};
 ghost use Rattle.parking_lot_protocol.specs.declared.act.Act.TheVariants.{Load, Exchange, Done};
 ghost use Rattle.parking_lot_protocol.specs.declared.act.ActResult.TheVariants.{Start, Word, Exchanged};
@@ -8,94 +8,104 @@ ghost use Rattle.parking_lot_protocol.specs.declared.act.CoreAnswer.TheVariants.
 use crate::call::Call;
 use crate::decision::DecisionCore;
 use crate::place::Place;
-use crate::table::Row;
-use parking_lot_protocol::{Act, ActResult, CoreAnswer};
+use crate::try_call::TryCall;
+use parking_lot_protocol::{Act, ActResult};
 use std::alloc::Allocator;
 
 /// How many acts a try makes at most: a look at the word and 64 exchanges.
 const TRY_ACTS: u32 = 65;
 
-/// Whether a call has come to the end at which it owns the lock.
-fn is_owned(act: Act) -> bool
-    ensures { IsTrue result ↔ (act ≡ Done Owned) }
-{
-    act == Act::Done(CoreAnswer::Owned)
-}
-
-impl<R, A: Allocator> Row<'_, '_, R, A> {
-    /// Makes the first exchange of a try that has seen this word. Where it is lost the try is to go on by
-    /// [`Place::try_again`], which counts it.
-    #[inline(always)]
-    pub fn tries_at_once<K: Call>(&self, _call: K, word: u64, to: u64) -> Result<(), u64>
-        requires first { K.Core.asks (K.Core.told K.begun Start) ≡ Load }
-        requires then { K.Core.asks (K.Core.told (K.Core.told K.begun Start) (Word word)) ≡ Exchange word to }
-        requires last { K.Core.asks (K.Core.told (K.Core.told (K.Core.told K.begun Start) (Word word)) Exchanged) ≡ Done
-            Owned }
-        ensures won { IfOk result (λ _. Admitted K.Core.told K.Core.asks K.begun) }
-        ensures lost { IfErr result (λ seen. seen ≢ word) }
-    {
-        match self.exchange(word, to) {
-            Ok(()) => Ok(()),
-            Err(seen) => Err(seen),
-        }
-    }
-}
+/// A try that has seen this word, and has won its first exchange, was admitted.
+#[inline(always)]
+pub fn admitted_at_once<K: Call>(_call: K, _word: u64, _to: u64)
+    requires first { K.Core.asks (K.Core.told K.begun Start) ≡ Load }
+    requires then { K.Core.asks (K.Core.told (K.Core.told K.begun Start) (Word _word)) ≡ Exchange _word _to }
+    requires last { K.Core.asks (K.Core.told (K.Core.told (K.Core.told K.begun Start) (Word _word)) Exchanged) ≡ Done
+        Owned }
+    ensures { Admitted K.Core.told K.Core.asks K.begun }
+{}
 
 impl<R, A: Allocator> Place<'_, '_, '_, R, A> {
-    /// Makes a try that has seen this word and no more, and answers whether it owns the lock.
-    pub fn try_on<K: Call>(&self, call: K, word: u64) -> bool
+    /// Makes a try that has seen this word and no more, with what is in hand. That comes back where it was refused.
+    pub fn try_on<K: TryCall>(&self, call: K, word: u64, had: K::Had) -> Result<K::Gained, K::Had>
         requires first { K.Core.asks (K.Core.told K.begun Start) ≡ Load }
-        ensures admitted { result ≡ true → Admitted K.Core.told K.Core.asks K.begun }
-        ensures refused { result ≡ false → Refused self.now.limit K.Core.told K.Core.asks K.begun }
+        requires name { K.is_of had self.now.row.now.shared.now.word }
+        ensures won { IfOk result (λ gained. K.gained_of gained self.now.row.now.shared.now.word) }
+        ensures kept { IfErr result (λ had. K.is_of had self.now.row.now.shared.now.word) }
+        ensures admitted { IfOk result (λ _. Admitted K.Core.told K.Core.asks K.begun) }
+        ensures refused { IfErr result (λ _. Refused self.now.limit K.Core.told K.Core.asks K.begun) }
     {
         let mut core = K::begin();
         core.next(ActResult::Start);
         core.next(ActResult::Word(word));
-        self.go_on_trying(call, core, 1)
+        self.go_on_trying(call, core, 1, had)
     }
 
     /// The same of a try that has seen the word, and has lost its first exchange to the word that is there now.
-    pub fn try_again<K: Call>(&self, call: K, word: u64, _to: u64, now: u64) -> bool
+    pub fn try_again<K: TryCall>(
+        &self,
+        call: K,
+        word: u64,
+        _to: u64,
+        now: u64,
+        had: K::Had,
+    ) -> Result<K::Gained, K::Had>
         requires first { K.Core.asks (K.Core.told K.begun Start) ≡ Load }
         requires then { K.Core.asks (K.Core.told (K.Core.told K.begun Start) (Word word)) ≡ Exchange word _to }
         requires lost { now ≢ word }
-        ensures admitted { result ≡ true → Admitted K.Core.told K.Core.asks K.begun }
-        ensures refused { result ≡ false → Refused self.now.limit K.Core.told K.Core.asks K.begun }
+        requires name { K.is_of had self.now.row.now.shared.now.word }
+        ensures won { IfOk result (λ gained. K.gained_of gained self.now.row.now.shared.now.word) }
+        ensures kept { IfErr result (λ had. K.is_of had self.now.row.now.shared.now.word) }
+        ensures admitted { IfOk result (λ _. Admitted K.Core.told K.Core.asks K.begun) }
+        ensures refused { IfErr result (λ _. Refused self.now.limit K.Core.told K.Core.asks K.begun) }
     {
         let mut core = K::begin();
         core.next(ActResult::Start);
         core.next(ActResult::Word(word));
         core.next(ActResult::Word(now));
-        self.go_on_trying(call, core, 2)
+        self.go_on_trying(call, core, 2, had)
     }
 
     /// Runs a try that was told of so many acts to its end. One that would admit a reader more than may be ends before.
     #[inline(never)]
-    fn go_on_trying<K: Call<Core = C>, C: DecisionCore>(
+    fn go_on_trying<K: TryCall<Core = C>, C: DecisionCore>(
         &self,
         _call: K,
         begun: C,
         count: u32,
-    ) -> bool
+        had: K::Had,
+    ) -> Result<K::Gained, K::Had>
         requires first { C.asks (C.told K.begun Start) ≡ Load }
         requires few { count ≤ 65 }
         requires told { WasToldOf C.told C.asks K.begun count begun }
-        ensures admitted { result ≡ true → Admitted C.told C.asks K.begun }
-        ensures refused { result ≡ false → Refused self.now.limit C.told C.asks K.begun }
+        requires tries { K.trying begun }
+        requires name { K.is_of had self.now.row.now.shared.now.word }
+        ensures won { IfOk result (λ gained. K.gained_of gained self.now.row.now.shared.now.word) }
+        ensures kept { IfErr result (λ had. K.is_of had self.now.row.now.shared.now.word) }
+        ensures admitted { IfOk result (λ _. Admitted C.told C.asks K.begun) }
+        ensures refused { IfErr result (λ _. Refused self.now.limit C.told C.asks K.begun) }
     {
         let mut core = begun;
+        let mut kept = had;
         for _made in count..TRY_ACTS {
             let act = core.act();
             if self.is_full(act) {
-                return false;
+                return Err(kept);
             }
-            match self.at_the_word(act) {
-                Some(seen) => {
-                    core.next(seen);
+            match act {
+                Act::Load => {
+                    core.next(ActResult::Word(self.word().load()));
                 }
-                None => return is_owned(act),
+                Act::Exchange(from, to) => match K::step(self.word(), kept, from, to) {
+                    Ok(gained) => return Ok(gained),
+                    Err((had, seen)) => {
+                        kept = had;
+                        core.next(ActResult::Word(seen));
+                    }
+                },
+                _ => return Err(kept),
             }
         }
-        is_owned(core.act())
+        Err(kept)
     }
 }

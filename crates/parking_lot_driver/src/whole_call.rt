@@ -5,7 +5,7 @@ ghost use Rattle.parking_lot_protocol.specs.declared.act.Act.TheVariants.{Done};
 ghost use Rattle.parking_lot_protocol.specs.declared.act.CoreAnswer.{CoreAnswer};
 
 use crate::call::Call;
-use crate::place::Place;
+use crate::plain_place::PlainPlace;
 use crate::table::Row;
 use crate::told::Run;
 use parking_lot_core::{SpinWait, ThreadData};
@@ -26,10 +26,7 @@ pub fn run_to_its_end<K: Call, R: Wait, A: Allocator>(
     ensures told { WasTold K.Core.told K.Core.asks K.begun result }
     ensures end { (answer : CoreAnswer) × (K.Core.asks result ≡ Done answer) }
 {
-    let place = Place {
-        row,
-        limit: u64::MAX,
-    };
+    let place = PlainPlace { row };
     let mut spin = SpinWait::new();
     let mut run = Run::begin(call);
     for _act in row.lot().runtime().forever() {
@@ -43,7 +40,7 @@ pub fn run_to_its_end<K: Call, R: Wait, A: Allocator>(
                 place.enter(&mut run, key, party);
             }
             act => {
-                run.tell(place.after(act));
+                run.tell(place.make(act));
             }
         }
     }

@@ -1,5 +1,5 @@
 -- Where the right to a mutex is in each phase of a call, and what an act may do to that.
-use Rattle.std.specs.Prelude.{◌≡◌, ◌⊎◌, ◌+◌, ◌*◌, ◌%◌, ◌^◌, ℕ, Bool}
+use Rattle.std.specs.Prelude.{◌≡◌, ◌⊎◌, ℕ, Bool}
 use Rattle.lock_word.specs.Owning.{then_owned}
 use Rattle.parking_lot_protocol.specs.declared.act.Act.{Act}
 use Rattle.parking_lot_protocol.specs.declared.act.Act.TheVariants as act
@@ -62,10 +62,6 @@ abbrev pub KeepsHand : Act → MutexPhase → Type 0
 KeepsHand (act.Exchange from to) p = in_hand (next_phase p Exchanged) ≡ then_owned (in_hand p) from to
 KeepsHand (act.Section inside) p = (in_hand p ≡ 0) × (in_hand (next_phase p Made) ≡ 0)
 KeepsHand a p = Unit {0}
-
--- The number of a mutex: the name of its lock word and the key of those that want it, in one.
-abbrev pub number_of : ℕ → ℕ → ℕ
-number_of name key = name * 2 ^ 64 + key % 2 ^ 64
 
 -- a try that is under way, or was refused
 abbrev pub IsTrying : MutexPhase → Type 0

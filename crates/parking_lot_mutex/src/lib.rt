@@ -12,7 +12,6 @@
 #![tactic(auto)]
 
 pub mod condvar;
-mod key;
 pub mod laws;
 pub mod once;
 mod raw_fair_mutex;

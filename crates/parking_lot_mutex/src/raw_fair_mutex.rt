@@ -1,7 +1,7 @@
 //! The raw mutex whose every release is fair.
 ghost use Rattle.std.specs.Prelude.{◌≡◌, ◌+◌, ◌-◌, ◌*◌, ◌%◌, ◌^◌, IfSome, MatchOption, true};
 ghost use Rattle.parking_lot_driver.specs.Ends.{MutexAdmitted, MutexEnded, MutexRefused, OwnedInTime, TimedEnded};
-ghost use Rattle.parking_lot_mutex.specs.Owning.{number_of};
+ghost use Rattle.parking_lot_driver.specs.Keys.{number_of};
 ghost use Rattle.parking_lot_protocol.specs.declared.act.CoreAnswer.{CoreAnswer};
 ghost use Rattle.parking_lot_protocol.specs.declared.act.CoreAnswer.TheVariants.{Owned};
 ghost use Rattle.parking_lot_protocol.specs.declared.mutex_phase.MutexPhase.TheVariants.{Locking, Unlocking, Bumping};

@@ -1,7 +1,7 @@
 //! The raw mutex.
 ghost use Rattle.std.specs.Prelude.{◌≡◌, ◌+◌, ◌-◌, ◌*◌, ◌%◌, ◌^◌, IfSome, MatchOption, false, true};
 ghost use Rattle.parking_lot_driver.specs.Ends.{MutexAdmitted, MutexEnded, MutexRefused, OwnedInTime, TimedEnded};
-ghost use Rattle.parking_lot_mutex.specs.Owning.{number_of};
+ghost use Rattle.parking_lot_driver.specs.Keys.{number_of};
 ghost use Rattle.parking_lot_protocol.specs.declared.act.CoreAnswer.{CoreAnswer};
 ghost use Rattle.parking_lot_protocol.specs.declared.act.CoreAnswer.TheVariants.{Owned};
 ghost use Rattle.parking_lot_protocol.specs.declared.mutex_phase.MutexPhase.TheVariants.{Locking, Unlocking, Bumping};
@@ -13,13 +13,12 @@ mod hand_over;
 mod timed;
 mod tries;
 
-use crate::key::Key;
 use crate::token::MutexToken;
 pub(crate) use hand_over::announce;
 use lock_api_raw::{MakeLock, RawMutex as _, RawMutexFair, RawMutexTimed, TableFull};
 use lock_word::{LockWord, Owner};
 use parking_lot_core::ThreadData;
-use parking_lot_driver::{Bump, Lock, LockTable, Row, Unlock, UnlockFairly, to_deadline};
+use parking_lot_driver::{Bump, Key, Lock, LockTable, Row, Unlock, UnlockFairly, to_deadline};
 use std::alloc::{Allocator, Global};
 use std::sync::Wait;
 use std::time::{Clock, Duration, Instant};

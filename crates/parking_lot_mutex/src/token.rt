@@ -1,8 +1,8 @@
 //! The tokens of the raw mutexes. Nobody can make one, so whoever has one got it of a mutex.
 ghost use Rattle.std.specs.Prelude.{◌≡◌};
 
-use crate::key::Key;
 use lock_word::Owner;
+use parking_lot_driver::Key;
 use std::marker::Model;
 
 /// That a [`RawMutex`](crate::RawMutex) is held: **the one right to it**. It comes from the mutex's word by an exchange

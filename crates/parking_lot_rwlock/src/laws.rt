@@ -1,6 +1,5 @@
-//! Laws of the uncontended ways: what a core asks for that is told what the one exchange saw. And one of a way that may
-//! count past the end of the word.
-ghost use Rattle.std.specs.Prelude.{◌≡◌, ◌<◌, ◌+◌, ◌-◌, ◌/◌, ◌%◌, ◌^◌, [], ◌∷◌, if◌then◌else◌, true};
+//! Laws of the uncontended ways: what a core asks for that is told what the one exchange saw.
+ghost use Rattle.std.specs.Prelude.{◌≡◌, ◌<◌, ◌+◌, ◌-◌, ◌/◌, ◌%◌, ◌^◌, [], ◌∷◌, if◌then◌else◌};
 ghost use Rattle.parking_lot_protocol.specs.declared.act.Act.TheVariants as act;
 ghost use Rattle.parking_lot_protocol.specs.declared.act.ActResult.TheVariants as told;
 ghost use Rattle.parking_lot_protocol.specs.declared.act.CoreAnswer.TheVariants.{Owned, Released};
@@ -101,12 +100,4 @@ pub fn one_sum_keeps_the_upgradable_hold(word: u64)
     requires { word % 2 ≡ 0 }
     ensures { Goes up.next_phase up.act_of upgrade.DowngradingToUpgradable
         ((told.Start, act.Add 12) ∷ (told.Before word, act.Done Owned) ∷ []) }
-{}
-
-/// A pending writer that gives its upgrade up adds 12, and doesn't look for room first. At 2^64 - 8, the least word at
-/// which that matters, 2^60 - 1 readers are beside it, and 4 says that there is none. So the count of this word can't go
-/// with rights to read.
-pub fn giving_an_upgrade_up_may_count_past_the_end()
-    ensures { Goes up.next_phase up.act_of (upgrade.GivingUp true)
-        ((told.Start, act.Load) ∷ (told.Word (2 ^ 64 - 8), act.Exchange (2 ^ 64 - 8) 4) ∷ []) }
 {}

@@ -4,11 +4,12 @@
 //! Each call runs a decision core on the row, by `parking_lot_driver`. Where one exchange is enough it is made before a
 //! core is set up: that is the core's own first way, cut short.
 //!
-//! **An admission issues one token, a release spends it on its own row:** tokens bear the first key of their row, and
-//! two rows of a lot never have the same. Nothing is promised of a word, nor that a call comes back: what keeps two
-//! writers from one value is the std lock in which a generic lock keeps it.
+//! **A token is a right to its lock.** It comes from the lock's word by a step that changes its number, or is handed
+//! over, and its release lays it there again. So nobody reads while somebody writes, and two threads never write.
+//! Nothing else is said of a word, nor that a call comes back.
 #![tactic(auto)]
 
+mod full;
 pub mod laws;
 mod raw_rwlock;
 mod raw_rwlock_timed;

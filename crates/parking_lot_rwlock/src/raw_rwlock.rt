@@ -1,94 +1,39 @@
 //! The raw reader-writer lock.
-ghost use Rattle.std.specs.Prelude.{◌≡◌, ◌≢◌, ◌+◌, ◌-◌, ◌*◌, ◌/◌, ◌%◌, ◌^◌, ◌&&◌, ◌||◌, ◌==◌, nat_lt, not, ◌≤◌};
-ghost use Rattle.std.specs.Prelude.{IfOk, IfSome, MatchOption, min, max, true, false};
-ghost use Rattle.lock_api_raw.specs.Limits.{kept_limit};
-ghost use Rattle.parking_lot_driver.specs.Ends.{RwAdmitted, RwEnded, RwRefused, UpgradeAdmitted, UpgradeEnded};
-ghost use Rattle.parking_lot_driver.specs.Ends.{UpgradeRefused};
-ghost use Rattle.parking_lot_driver.specs.Runs.{Ended};
-ghost use Rattle.parking_lot_driver.specs.Tries.{Admitted, Refused};
-ghost use Rattle.parking_lot_protocol.specs.RwTable.{is_upgradable, is_written};
-ghost use Rattle.parking_lot_protocol.specs.declared.act.Act.TheVariants.{Load, Exchange, Done};
-ghost use Rattle.parking_lot_protocol.specs.declared.act.ActResult.TheVariants.{Start, Word, Exchanged};
+ghost use Rattle.std.specs.Prelude.{◌≡◌, ◌+◌, ◌-◌, ◌*◌, ◌/◌, ◌%◌, ◌^◌, ◌==◌, ◌≤◌, MatchOption, true, false};
+ghost use Rattle.parking_lot_driver.specs.Ends.{RwAdmitted, RwEnded, RwRefused};
+ghost use Rattle.parking_lot_driver.specs.Keys.{number_of};
 ghost use Rattle.parking_lot_protocol.specs.declared.act.CoreAnswer.{CoreAnswer};
 ghost use Rattle.parking_lot_protocol.specs.declared.act.CoreAnswer.TheVariants.{Owned};
-ghost use Rattle.parking_lot_protocol.specs.declared.rw_phase.LockMode.TheVariants.{Shared, Exclusive};
+ghost use Rattle.parking_lot_protocol.specs.declared.rw_phase.LockMode.TheVariants as want;
 ghost use Rattle.parking_lot_protocol.specs.declared.rw_phase.RwPhase.TheVariants.{Locking, Trying, UnlockingShared};
 ghost use Rattle.parking_lot_protocol.specs.declared.rw_phase.RwPhase.TheVariants.{UnlockingExclusive, Downgrading};
 ghost use Rattle.parking_lot_protocol.specs.declared.rw_phase.RwPhase.TheVariants.{BumpingShared, BumpingExclusive};
-ghost use Rattle.parking_lot_protocol_rw.specs.declared.upgrade_phase.UpgradePhase.TheVariants as call;
 
+mod at_once;
+mod calls;
+mod tries;
+
+use crate::full::Full;
 use crate::token::{ExclusiveToken, SharedToken, UpgradableToken};
 use lock_api_raw::{MakeLock, RawRwLock as _, RawRwLockDowngrade, RawRwLockFair, TableFull};
-use parking_lot_core::{ThreadData, thread_yield};
+use lock_word::{Exclusive, Reader, SharedWord, Upgradable};
+use parking_lot_core::ThreadData;
 use parking_lot_driver::{
-    AskUpgradably, BumpReader, BumpWriter, Call, Downgrade, LockTable, Place, Read, Row,
-    StopReading, StopWriting, StopWritingFairly, TryRead, TryToOwnUpgradably, TryWrite, Write,
+    Downgrade, Key, LockTable, Place, Row, StopReading, StopWriting, StopWritingFairly,
+    ended_at_once, ended_by_sum,
 };
-use parking_lot_protocol::word::{MAX_READERS, PARKED, READER, UPGRADABLE, WRITER, WRITER_PARKED};
-use parking_lot_protocol::{ActResult, CoreAnswer, word};
+use parking_lot_protocol::word::{PARKED, READER, WRITER, WRITER_PARKED};
+use parking_lot_protocol::{CoreAnswer, word};
 use std::alloc::{Allocator, Global};
-use std::marker::Model;
 use std::sync::Wait;
-
-/// Whether a reader is admitted at once: no writer owns the lock or waits for readers to leave, and the word is less
-/// than one with the most readers.
-#[inline(always)]
-fn is_open(word: u64, full: u64) -> bool
-    ensures { result ≡ (not (is_written word) && nat_lt word full) }
-{
-    !word::is_written(word) && word < full
-}
-
-/// Whether an upgradable owner is admitted at once: neither a writer nor another upgradable owner keeps it out, and the
-/// word is less than one with the most readers.
-#[inline(always)]
-fn is_open_to_upgradable(word: u64, full: u64) -> bool
-    ensures { result ≡ (not (is_written word || is_upgradable word) && nat_lt word full) }
-{
-    !(word::is_written(word) || word::is_upgradable(word)) && word < full
-}
-
-/// The word at which no reader more is admitted: 16 times the most readers.
-#[derive(Drop)]
-struct Full {
-    word: u64,
-}
-
-impl Model for Full {
-    ghost use Rattle.std.specs.Prelude.{ℕ, ◌≤◌, ◌-◌, ◌^◌};
-
-    ghost Value = { ℕ };
-
-    ghost view = { λ full. full.word };
-
-    ghost invariant = { λ full. full.word ≤ 2 ^ 64 - 16 };
-}
-
-impl Full {
-    /// That of a lock with at most so many readers, where 0 counts as 1, or as many as a word can count.
-    fn of(readers: u64) -> Full
-        ensures { result / 16 ≡ kept_limit (2 ^ 60 - 1) readers }
-    {
-        Full {
-            word: readers.max(1).min(MAX_READERS) * READER,
-        }
-    }
-
-    /// The word.
-    #[inline(always)]
-    fn word(&self) -> u64
-        ensures value { result ≡ self.now }
-        ensures most { result ≤ 2 ^ 64 - 16 }
-    {
-        self.word
-    }
-}
 
 /// An unfair reader-writer lock on one row of a lock table. A writer that waits keeps new readers out; where
 /// `RECURSIVE` is 1 a thread that reads may read again past it, and else `RECURSIVE` is 0.
 ///
 /// Its word is 16 for each reader, 20 for an upgradable owner, and 8 for a writer, also while that waits for readers to
-/// leave; where such a writer may sleep 2 is added, and where threads may sleep that want the lock, 1.
+/// leave; where such a writer may sleep 2 is added, and where threads may sleep that want the lock, 1. With its number
+/// go **the rights to the lock**: each token has one of them, or it was left for a thread to which the lock is handed
+/// over. So nobody reads while somebody writes, and two threads never write.
 #[derive(Drop)]
 pub struct RawRwLock<'t, 'l, R, const RECURSIVE: u8, A: Allocator = Global> {
     row: Row<'t, 'l, R, A>,
@@ -104,9 +49,18 @@ impl<'t, 'l, R, const RECURSIVE: u8, A: Allocator> RawRwLock<'t, 'l, R, RECURSIV
         &self.row
     }
 
+    /// Its word. In a clause it is the name of the lock.
+    #[inline(always)]
+    pub(crate) fn word(&self) -> &SharedWord
+        ensures { result.now ≡ self.now.row.shared.now.word }
+    {
+        self.row.shared().word()
+    }
+
     /// What its calls run on.
     pub(crate) fn place(&self) -> Place<'_, 't, 'l, R, A>
-        ensures { result.limit ≡ self.now.full / 16 }
+        ensures limit { result.limit ≡ self.now.full / 16 }
+        ensures row { result.row.now ≡ self.now.row }
     {
         Place {
             row: &self.row,
@@ -114,241 +68,168 @@ impl<'t, 'l, R, const RECURSIVE: u8, A: Allocator> RawRwLock<'t, 'l, R, RECURSIV
         }
     }
 
-    /// The number that its tokens carry.
+    /// The word at which no reader more is admitted.
     #[inline(always)]
-    pub(crate) fn number(&self) -> u64
-        ensures { result ≡ (self.now.row.table.now.first_key + 2 * self.now.row.number) % 2 ^ 64 }
+    pub(crate) fn full(&self) -> u64
+        ensures value { result ≡ self.now.full }
+        ensures most { result ≤ 2 ^ 64 - 16 }
     {
-        self.row.first_key() as u64
+        self.full.word()
     }
 
-    /// The token of a shared hold.
+    /// The key in its tokens.
     #[inline(always)]
-    pub(crate) fn shared_token(&self) -> SharedToken
-        ensures { result ≡ (self.now.row.table.now.first_key + 2 * self.now.row.number) % 2 ^ 64 }
+    pub(crate) fn key(&self) -> Key
+        ensures { result.value ≡ (self.now.row.table.now.first_key + 2 * self.now.row.number) % 2 ^ 64 }
     {
-        SharedToken::new(self.number())
+        let key = self.row.first_key() as u64;
+        Key::of(&key)
     }
 
-    /// The token of the exclusive hold.
+    /// The token of this lock for a reader's share of it.
     #[inline(always)]
-    pub(crate) fn exclusive_token(&self) -> ExclusiveToken
-        ensures { result ≡ (self.now.row.table.now.first_key + 2 * self.now.row.number) % 2 ^ 64 }
+    pub(crate) fn shared_token(&self, right: Reader) -> SharedToken
+        requires { right ≡ self.now.row.shared.now.word }
+        ensures name { result.0 ≡ self.now.row.shared.now.word }
+        ensures key { result.1 ≡ (self.now.row.table.now.first_key + 2 * self.now.row.number) % 2 ^ 64 }
     {
-        ExclusiveToken::new(self.number())
+        SharedToken::of(right, self.key())
     }
 
-    /// The token of the upgradable hold.
+    /// The token of this lock for the right to write under it.
     #[inline(always)]
-    pub(crate) fn upgradable_token(&self) -> UpgradableToken
-        ensures { result ≡ (self.now.row.table.now.first_key + 2 * self.now.row.number) % 2 ^ 64 }
+    pub(crate) fn exclusive_token(&self, right: Exclusive) -> ExclusiveToken
+        requires { right ≡ self.now.row.shared.now.word }
+        ensures name { result.0 ≡ self.now.row.shared.now.word }
+        ensures key { result.1 ≡ (self.now.row.table.now.first_key + 2 * self.now.row.number) % 2 ^ 64 }
     {
-        UpgradableToken::new(self.number())
+        ExclusiveToken::of(right, self.key())
     }
 
-    /// Makes a try that has seen this word alone.
-    #[cold]
-    #[inline(never)]
-    pub(crate) fn try_slowly<K: Call>(&self, call: K, word: u64) -> bool
-        requires { K.Core.asks (K.Core.told K.begun Start) ≡ Load }
-        ensures admitted { result ≡ true → Admitted K.Core.told K.Core.asks K.begun }
-        ensures refused { result ≡ false → Refused (self.now.full / 16) K.Core.told K.Core.asks K.begun }
-    {
-        self.place().try_on(call, word)
-    }
-
-    /// Makes a try by one exchange of the word that it has seen, and goes on where that is lost.
+    /// The token of this lock for the right of its upgradable owner.
     #[inline(always)]
-    pub(crate) fn try_by_exchange<K: Call>(&self, call: K, word: u64, to: u64) -> bool
-        requires first { K.Core.asks (K.Core.told K.begun Start) ≡ Load }
-        requires then { K.Core.asks (K.Core.told (K.Core.told K.begun Start) (Word word)) ≡ Exchange word to }
-        requires last { K.Core.asks (K.Core.told (K.Core.told (K.Core.told K.begun Start) (Word word)) Exchanged) ≡ Done
-            Owned }
-        ensures admitted { result ≡ true → Admitted K.Core.told K.Core.asks K.begun }
-        ensures refused { result ≡ false → Refused (self.now.full / 16) K.Core.told K.Core.asks K.begun }
+    pub(crate) fn upgradable_token(&self, right: Upgradable) -> UpgradableToken
+        requires { right ≡ self.now.row.shared.now.word }
+        ensures name { result.0 ≡ self.now.row.shared.now.word }
+        ensures key { result.1 ≡ (self.now.row.table.now.first_key + 2 * self.now.row.number) % 2 ^ 64 }
     {
-        match self.row.tries_at_once(call, word, to) {
-            Ok(()) => true,
-            Err(now) => self.try_after_a_loss(call, word, to, now),
-        }
+        UpgradableToken::of(right, self.key())
     }
 
-    /// Goes on with a try that has lost its first exchange to the word that is there now.
-    #[cold]
-    #[inline(never)]
-    fn try_after_a_loss<K: Call>(&self, call: K, word: u64, to: u64, now: u64) -> bool
-        requires first { K.Core.asks (K.Core.told K.begun Start) ≡ Load }
-        requires then { K.Core.asks (K.Core.told (K.Core.told K.begun Start) (Word word)) ≡ Exchange word to }
-        requires lost { now ≢ word }
-        ensures admitted { result ≡ true → Admitted K.Core.told K.Core.asks K.begun }
-        ensures refused { result ≡ false → Refused (self.now.full / 16) K.Core.told K.Core.asks K.begun }
-    {
-        self.place().try_again(call, word, to, now)
-    }
-
-    /// Reads at once, where one exchange does it.
+    /// The right to this lock for a token of it.
     #[inline(always)]
-    pub(crate) fn reads_at_once(&self) -> bool
-        ensures { result ≡ true → RwEnded (Locking (Shared (RECURSIVE == 1))) Owned }
+    pub(crate) fn reader_of(&self, token: SharedToken) -> Reader
+        requires { number_of token.0 token.1 ≡ number_of self.now.row.shared.now.word
+            ((self.now.row.table.now.first_key + 2 * self.now.row.number) % 2 ^ 64) }
+        ensures { result ≡ self.now.row.shared.now.word }
     {
-        let word = self.row.load();
-        if !is_open(word, self.full.word()) {
-            return false;
-        }
-        self.row
-            .owns_at_once(Read::<RECURSIVE>, word, word.wrapping_add(READER))
+        token.into_right()
     }
 
-    /// Tries to read, by one exchange where the word is open.
+    /// The right to this lock for a token of it.
     #[inline(always)]
-    fn tries_to_read(&self) -> bool
-        ensures admitted { result ≡ true → RwAdmitted (Trying (Shared (RECURSIVE == 1))) }
-        ensures refused { result ≡ false → RwRefused (self.now.full / 16) (Trying (Shared (RECURSIVE == 1))) }
+    pub(crate) fn exclusive_of(&self, token: ExclusiveToken) -> Exclusive
+        requires { number_of token.0 token.1 ≡ number_of self.now.row.shared.now.word
+            ((self.now.row.table.now.first_key + 2 * self.now.row.number) % 2 ^ 64) }
+        ensures { result ≡ self.now.row.shared.now.word }
     {
-        let word = self.row.load();
-        if is_open(word, self.full.word()) {
-            self.try_by_exchange(TryRead::<RECURSIVE>, word, word.wrapping_add(READER))
-        } else {
-            self.try_slowly(TryRead::<RECURSIVE>, word)
-        }
+        token.into_right()
     }
 
-    /// Tries to have the upgradable hold, by one exchange where the word is open to it.
+    /// The right to this lock for a token of it.
     #[inline(always)]
-    pub(crate) fn tries_to_own_upgradably(&self) -> bool
-        ensures admitted { result ≡ true → UpgradeAdmitted call.Trying }
-        ensures refused { result ≡ false → UpgradeRefused (self.now.full / 16) call.Trying }
+    pub(crate) fn upgradable_of(&self, token: UpgradableToken) -> Upgradable
+        requires { number_of token.0 token.1 ≡ number_of self.now.row.shared.now.word
+            ((self.now.row.table.now.first_key + 2 * self.now.row.number) % 2 ^ 64) }
+        ensures { result ≡ self.now.row.shared.now.word }
     {
-        let word = self.row.load();
-        if is_open_to_upgradable(word, self.full.word()) {
-            self.try_by_exchange(
-                TryToOwnUpgradably,
-                word,
-                word.wrapping_add(READER + UPGRADABLE),
-            )
-        } else {
-            self.try_slowly(TryToOwnUpgradably, word)
-        }
+        token.into_right()
     }
 
-    /// Writes at once, where one exchange does it.
+    /// The right to this lock and the key, for a token of it.
     #[inline(always)]
-    pub(crate) fn writes_at_once(&self) -> bool
-        ensures { result ≡ true → RwEnded (Locking Exclusive) Owned }
+    pub(crate) fn exclusive_parts(&self, token: ExclusiveToken) -> (Exclusive, Key)
+        requires { number_of token.0 token.1 ≡ number_of self.now.row.shared.now.word
+            ((self.now.row.table.now.first_key + 2 * self.now.row.number) % 2 ^ 64) }
+        ensures name { result.0 ≡ self.now.row.shared.now.word }
+        ensures same { (result.0 ≡ token.0) × (result.1.value ≡ token.1) }
+        ensures key { token.1 % 2 ^ 64 ≡ (self.now.row.table.now.first_key + 2 * self.now.row.number) % 2 ^ 64 }
     {
-        self.row.owns_after_a_look(Write, 0, WRITER)
+        token.into_parts()
     }
 
-    /// Has the upgradable hold at once, where one exchange does it.
+    /// The right to this lock and the key, for a token of it.
     #[inline(always)]
-    pub(crate) fn upgradable_at_once(&self) -> bool
-        ensures { result ≡ true → UpgradeEnded call.Locking Owned }
+    pub(crate) fn upgradable_parts(&self, token: UpgradableToken) -> (Upgradable, Key)
+        requires { number_of token.0 token.1 ≡ number_of self.now.row.shared.now.word
+            ((self.now.row.table.now.first_key + 2 * self.now.row.number) % 2 ^ 64) }
+        ensures name { result.0 ≡ self.now.row.shared.now.word }
+        ensures same { (result.0 ≡ token.0) × (result.1.value ≡ token.1) }
+        ensures key { token.1 % 2 ^ 64 ≡ (self.now.row.table.now.first_key + 2 * self.now.row.number) % 2 ^ 64 }
     {
-        let word = self.row.load();
-        if !is_open_to_upgradable(word, self.full.word()) {
-            return false;
-        }
-        self.row.owns_at_once(AskUpgradably, word, word.wrapping_add(READER + UPGRADABLE))
+        token.into_parts()
     }
 
-    /// Whether there are more readers than may be.
-    pub(crate) fn is_overfull(&self) -> bool {
-        word::readers(self.row.load()) > word::readers(self.full.word())
-    }
-}
-
-impl<'t, 'l, R: Wait, const RECURSIVE: u8, A: Allocator> RawRwLock<'t, 'l, R, RECURSIVE, A> {
-    /// Asks until the call ends with a hold.
-    pub(crate) fn own<K: Call>(&self, call: K, party: &mut ThreadData<A>)
-        ensures { Ended K.Core.told K.Core.asks K.begun Owned }
+    /// Two threads never write under this lock: a program in which they did could go no further.
+    ///
+    /// ```text
+    /// raw.never_two(token, another);   // both of this lock: nobody can have them
+    /// ```
+    pub fn never_two(&self, one: ExclusiveToken, other: ExclusiveToken)
+        requires one { number_of one.0 one.1 ≡ number_of self.now.row.shared.now.word
+            ((self.now.row.table.now.first_key + 2 * self.now.row.number) % 2 ^ 64) }
+        requires other { number_of other.0 other.1 ≡ number_of self.now.row.shared.now.word
+            ((self.now.row.table.now.first_key + 2 * self.now.row.number) % 2 ^ 64) }
+        ensures { ⊥ }
     {
-        for _call in self.runtime().forever() {
-            if self.place().ask(call, party) == CoreAnswer::Owned {
-                return;
-            }
-        }
-        unreachable!()
+        self.exclusive_of(one).never_two(self.exclusive_of(other));
     }
 
-    /// Lets those that wait go before this reader.
-    #[cold]
-    #[inline(never)]
-    fn bump_reader_slowly(&self, party: &mut ThreadData<A>)
-        ensures { RwEnded BumpingShared Owned }
+    /// Nobody reads under this lock while somebody writes.
+    ///
+    /// ```text
+    /// raw.never_beside_reader(token, reader);   // both of this lock: nobody can have them
+    /// ```
+    pub fn never_beside_reader(&self, writer: ExclusiveToken, reader: SharedToken)
+        requires writer { number_of writer.0 writer.1 ≡ number_of self.now.row.shared.now.word
+            ((self.now.row.table.now.first_key + 2 * self.now.row.number) % 2 ^ 64) }
+        requires reader { number_of reader.0 reader.1 ≡ number_of self.now.row.shared.now.word
+            ((self.now.row.table.now.first_key + 2 * self.now.row.number) % 2 ^ 64) }
+        ensures { ⊥ }
     {
-        self.own_shared(BumpReader, party);
+        self.exclusive_of(writer)
+            .never_beside_reader(self.reader_of(reader));
     }
 
-    /// Lets those that wait go before this writer.
-    #[cold]
-    #[inline(never)]
-    fn bump_writer_slowly(&self, party: &mut ThreadData<A>)
-        ensures { RwEnded BumpingExclusive Owned }
+    /// Nobody has the upgradable hold of this lock while somebody writes.
+    ///
+    /// ```text
+    /// raw.never_beside_upgradable(token, owner);   // both of this lock: nobody can have them
+    /// ```
+    pub fn never_beside_upgradable(&self, writer: ExclusiveToken, owner: UpgradableToken)
+        requires writer { number_of writer.0 writer.1 ≡ number_of self.now.row.shared.now.word
+            ((self.now.row.table.now.first_key + 2 * self.now.row.number) % 2 ^ 64) }
+        requires owner { number_of owner.0 owner.1 ≡ number_of self.now.row.shared.now.word
+            ((self.now.row.table.now.first_key + 2 * self.now.row.number) % 2 ^ 64) }
+        ensures { ⊥ }
     {
-        self.own(BumpWriter, party);
+        self.exclusive_of(writer)
+            .never_beside_upgradable(self.upgradable_of(owner));
     }
 
-    /// Asks until a shared hold is owned. A fair writer may hand the lock over to more readers than there may be: then
-    /// this one gives its hold back, and asks again.
-    fn own_shared<K: Call>(&self, call: K, party: &mut ThreadData<A>)
-        ensures { Ended K.Core.told K.Core.asks K.begun Owned }
+    /// Two threads never have the upgradable hold of this lock.
+    ///
+    /// ```text
+    /// raw.never_two_upgradable(token, another);   // both of this lock: nobody can have them
+    /// ```
+    pub fn never_two_upgradable(&self, one: UpgradableToken, other: UpgradableToken)
+        requires one { number_of one.0 one.1 ≡ number_of self.now.row.shared.now.word
+            ((self.now.row.table.now.first_key + 2 * self.now.row.number) % 2 ^ 64) }
+        requires other { number_of other.0 other.1 ≡ number_of self.now.row.shared.now.word
+            ((self.now.row.table.now.first_key + 2 * self.now.row.number) % 2 ^ 64) }
+        ensures { ⊥ }
     {
-        self.own(call, party);
-        for _call in self.runtime().forever() {
-            if !self.is_overfull() {
-                return;
-            }
-            self.unlock_shared(self.shared_token());
-            thread_yield();
-            self.own(Read::<RECURSIVE>, party);
-        }
-        unreachable!()
-    }
-
-    /// Asks to read where that isn't had at once.
-    #[cold]
-    #[inline(never)]
-    fn read_slowly(&self, party: &mut ThreadData<A>)
-        ensures { RwEnded (Locking (Shared (RECURSIVE == 1))) Owned }
-    {
-        self.own_shared(Read::<RECURSIVE>, party);
-    }
-
-    /// Asks to write where that isn't had at once.
-    #[cold]
-    #[inline(never)]
-    fn write_slowly(&self, party: &mut ThreadData<A>)
-        ensures { RwEnded (Locking Exclusive) Owned }
-    {
-        self.own(Write, party);
-    }
-
-    /// A shared hold was taken off this word, and a writer may sleep until the readers have left: the core says whether
-    /// to wake it.
-    #[cold]
-    #[inline(never)]
-    fn unread_slowly(&self, word: u64)
-        ensures { (answer : CoreAnswer) × RwEnded UnlockingShared answer }
-    {
-        self.place().give_up(StopReading, ActResult::Before(word));
-    }
-
-    /// Gives the exclusive hold up at this word, where threads may sleep.
-    #[cold]
-    #[inline(never)]
-    fn unwrite_slowly<K: Call>(&self, call: K, word: u64)
-        ensures { (answer : CoreAnswer) × Ended K.Core.told K.Core.asks K.begun answer }
-    {
-        self.place().give_up(call, ActResult::Word(word));
-    }
-
-    /// The exclusive hold has become a shared one at this word, where threads may sleep: the core says whom to wake.
-    #[cold]
-    #[inline(never)]
-    fn downgrade_slowly(&self, word: u64)
-        ensures { (answer : CoreAnswer) × RwEnded Downgrading answer }
-    {
-        self.place().give_up(Downgrade, ActResult::Before(word));
+        self.upgradable_of(one).never_two(self.upgradable_of(other));
     }
 }
 
@@ -379,24 +260,25 @@ impl<'t, 'l, R, const RECURSIVE: u8, A: Allocator> lock_api_raw::RawRwLock
 
     type ExclusiveGuard = ExclusiveToken;
 
-    ghost number = { λ lock. (lock.row.table.now.first_key + 2 * lock.row.number) % 2 ^ 64 };
+    ghost number = { λ lock. number_of lock.row.shared.now.word
+        ((lock.row.table.now.first_key + 2 * lock.row.number) % 2 ^ 64) };
 
-    ghost shared_by = { λ token. token };
+    ghost shared_by = { λ token. number_of token.0 token.1 };
 
-    ghost exclusive_by = { λ token. token };
+    ghost exclusive_by = { λ token. number_of token.0 token.1 };
 
     ghost runtime_of = { λ lock. lock.row.table.now.lot.now.rt };
 
-    ghost shared_locked = { λ _. RwEnded (Locking (Shared (RECURSIVE == 1))) Owned };
+    ghost shared_locked = { λ _. RwEnded (Locking (want.Shared (RECURSIVE == 1))) Owned };
 
-    ghost exclusive_locked = { λ _. RwEnded (Locking Exclusive) Owned };
+    ghost exclusive_locked = { λ _. RwEnded (Locking want.Exclusive) Owned };
 
     ghost shared_tried = { λ lock answer. MatchOption answer
-        (RwRefused (lock.full / 16) (Trying (Shared (RECURSIVE == 1))))
-        (λ _. RwAdmitted (Trying (Shared (RECURSIVE == 1)))) };
+        (RwRefused (lock.full / 16) (Trying (want.Shared (RECURSIVE == 1))))
+        (λ _. RwAdmitted (Trying (want.Shared (RECURSIVE == 1)))) };
 
-    ghost exclusive_tried = { λ lock answer. MatchOption answer (RwRefused (lock.full / 16) (Trying Exclusive))
-        (λ _. RwAdmitted (Trying Exclusive)) };
+    ghost exclusive_tried = { λ lock answer. MatchOption answer (RwRefused (lock.full / 16) (Trying want.Exclusive))
+        (λ _. RwAdmitted (Trying want.Exclusive)) };
 
     ghost shared_unlocked = { λ _. (answer : CoreAnswer) × RwEnded UnlockingShared answer };
 
@@ -411,19 +293,17 @@ impl<'t, 'l, R, const RECURSIVE: u8, A: Allocator> lock_api_raw::RawRwLock
     where
         R: Wait,
     {
-        if self.reads_at_once() {
-            return self.shared_token();
+        match self.reads_at_once() {
+            Some(reader) => self.shared_token(reader),
+            None => self.shared_token(self.read_slowly(party)),
         }
-        self.read_slowly(party);
-        self.shared_token()
     }
 
     #[inline(always)]
     fn try_lock_shared(&self) -> Option<SharedToken> {
-        if self.tries_to_read() {
-            Some(self.shared_token())
-        } else {
-            None
+        match self.tries_to_read() {
+            Some(reader) => Some(self.shared_token(reader)),
+            None => None,
         }
     }
 
@@ -432,14 +312,11 @@ impl<'t, 'l, R, const RECURSIVE: u8, A: Allocator> lock_api_raw::RawRwLock
     where
         R: Wait,
     {
-        guard.spend();
-        let ended = self.row.ends_by_sum(
-            StopReading,
-            READER.wrapping_neg(),
-            WRITER_PARKED,
-            CoreAnswer::Released,
-        );
-        if let Err(word) = ended {
+        let word = self.word().end_read(self.reader_of(guard));
+        if (word / WRITER_PARKED) % 2 == 0 {
+            let by = READER.wrapping_neg();
+            ended_by_sum(StopReading, by, word, CoreAnswer::Released);
+        } else {
             self.unread_slowly(word);
         }
     }
@@ -449,19 +326,17 @@ impl<'t, 'l, R, const RECURSIVE: u8, A: Allocator> lock_api_raw::RawRwLock
     where
         R: Wait,
     {
-        if self.writes_at_once() {
-            return self.exclusive_token();
+        match self.writes_at_once() {
+            Some(owner) => self.exclusive_token(owner),
+            None => self.exclusive_token(self.write_slowly(party)),
         }
-        self.write_slowly(party);
-        self.exclusive_token()
     }
 
     #[inline(always)]
     fn try_lock_exclusive(&self) -> Option<ExclusiveToken> {
-        if self.try_by_exchange(TryWrite, 0, WRITER) {
-            Some(self.exclusive_token())
-        } else {
-            None
+        match self.tries_to_write() {
+            Some(owner) => Some(self.exclusive_token(owner)),
+            None => None,
         }
     }
 
@@ -470,18 +345,18 @@ impl<'t, 'l, R, const RECURSIVE: u8, A: Allocator> lock_api_raw::RawRwLock
     where
         R: Wait,
     {
-        guard.spend();
-        if let Err(word) = self.row.ends_at_once(StopWriting, WRITER, 0) {
-            self.unwrite_slowly(StopWriting, word);
+        match self.word().end_write(self.exclusive_of(guard)) {
+            Ok(()) => ended_at_once(StopWriting, WRITER, 0),
+            Err((owner, word)) => self.unwrite_slowly(StopWriting, owner, word),
         }
     }
 
     fn is_locked(&self) -> bool {
-        word::is_held(self.row.load())
+        word::is_held(self.word().load())
     }
 
     fn is_locked_exclusive(&self) -> bool {
-        word::is_exclusive(self.row.load())
+        word::is_exclusive(self.word().load())
     }
 }
 
@@ -508,9 +383,9 @@ impl<'t, 'l, R, const RECURSIVE: u8, A: Allocator> RawRwLockFair
     where
         R: Wait,
     {
-        guard.spend();
-        if let Err(word) = self.row.ends_at_once(StopWritingFairly, WRITER, 0) {
-            self.unwrite_slowly(StopWritingFairly, word);
+        match self.word().end_write(self.exclusive_of(guard)) {
+            Ok(()) => ended_at_once(StopWritingFairly, WRITER, 0),
+            Err((owner, word)) => self.unwrite_slowly(StopWritingFairly, owner, word),
         }
     }
 
@@ -519,10 +394,10 @@ impl<'t, 'l, R, const RECURSIVE: u8, A: Allocator> RawRwLockFair
     where
         R: Wait,
     {
-        if !self.row.owns_as_it_is(BumpReader, WRITER) {
-            self.bump_reader_slowly(party);
+        if self.reads_as_it_is() {
+            return guard;
         }
-        guard
+        self.shared_token(self.bump_reader_slowly(self.reader_of(guard), party))
     }
 
     #[inline(always)]
@@ -530,10 +405,10 @@ impl<'t, 'l, R, const RECURSIVE: u8, A: Allocator> RawRwLockFair
     where
         R: Wait,
     {
-        if !self.row.owns_as_it_is(BumpWriter, PARKED) {
-            self.bump_writer_slowly(party);
+        if self.writes_as_it_is() {
+            return guard;
         }
-        guard
+        self.exclusive_token(self.bump_writer_slowly(self.exclusive_of(guard), party))
     }
 }
 
@@ -546,13 +421,12 @@ impl<'t, 'l, R, const RECURSIVE: u8, A: Allocator> RawRwLockDowngrade
     where
         R: Wait,
     {
-        let kept = self
-            .row
-            .ends_by_sum(Downgrade, READER - WRITER, PARKED, CoreAnswer::Owned);
-        if let Err(word) = kept {
-            self.downgrade_slowly(word);
-            return guard.shared();
+        let (reader, word) = self.word().downgrade(self.exclusive_of(guard));
+        if (word / PARKED) % 2 == 0 {
+            ended_by_sum(Downgrade, READER - WRITER, word, CoreAnswer::Owned);
+            self.shared_token(reader)
+        } else {
+            self.shared_token(self.downgrade_slowly(reader, word))
         }
-        guard.shared()
     }
 }

@@ -1,10 +1,11 @@
 //! Calls of the raw reader-writer lock that may give up.
-ghost use Rattle.std.specs.Prelude.{◌≡◌, ◌+◌, ◌*◌, ◌%◌, ◌^◌, ◌==◌, IfSome, MatchBool, MatchOption, MatchResult};
+ghost use Rattle.std.specs.Prelude.{◌≡◌, ◌+◌, ◌*◌, ◌%◌, ◌^◌, ◌==◌, IfSome, IfOk, IfErr, MatchOption, MatchResult};
 ghost use Rattle.parking_lot_driver.specs.Ends.{RwEnded, RwOwned, TimedRwEnded, UpgradeEnded, asking_in_time};
 ghost use Rattle.parking_lot_driver.specs.Ends.{reading_in_time, upgrading_in_time, writing_in_time};
+ghost use Rattle.parking_lot_driver.specs.Keys.{number_of};
 ghost use Rattle.parking_lot_protocol.specs.declared.act.Act.TheVariants.{Done};
 ghost use Rattle.parking_lot_protocol.specs.declared.act.CoreAnswer.TheVariants.{Owned};
-ghost use Rattle.parking_lot_protocol.specs.declared.rw_phase.LockMode.TheVariants.{Shared, Exclusive};
+ghost use Rattle.parking_lot_protocol.specs.declared.rw_phase.LockMode.TheVariants as want;
 ghost use Rattle.parking_lot_protocol.specs.declared.rw_phase.RwPhase.TheVariants.{Locking};
 ghost use Rattle.parking_lot_protocol.specs.declared.timed.timed_act.TimedAct.TheVariants.{Makes, GivesUp};
 ghost use Rattle.parking_lot_protocol_rw.specs.declared.upgrade_phase.UpgradePhase.TheVariants as call;
@@ -12,6 +13,7 @@ ghost use Rattle.parking_lot_protocol_rw.specs.declared.upgrade_phase.UpgradePha
 use crate::raw_rwlock::RawRwLock;
 use crate::token::{ExclusiveToken, SharedToken, UpgradableToken};
 use lock_api_raw::{RawRwLock as _, RawRwLockTimed, RawRwLockUpgrade as _, RawRwLockUpgradeTimed};
+use lock_word::{Exclusive, Pending, Reader, Upgradable};
 use parking_lot_core::{ThreadData, thread_yield};
 use parking_lot_driver::{
     AskUpgradablyInTime, Disown, ReadInTime, UpgradeInTime, WriteInTime, to_deadline,
@@ -30,19 +32,24 @@ impl<'t, 'l, R: Wait, const RECURSIVE: u8, A: Allocator> RawRwLock<'t, 'l, R, RE
         deadline: Instant,
         clock: &C,
         party: &mut ThreadData<A>,
-    ) -> bool
-        ensures { MatchBool result (TimedRwEnded (reading_in_time RECURSIVE) (Makes (Done Owned)))
-            (TimedRwEnded (reading_in_time RECURSIVE) GivesUp) }
+    ) -> Option<Reader>
+        ensures name { IfSome result (λ reader. reader ≡ self.now.row.shared.now.word) }
+        ensures ended { MatchOption result (TimedRwEnded (reading_in_time RECURSIVE) GivesUp)
+            (λ _. TimedRwEnded (reading_in_time RECURSIVE) (Makes (Done Owned))) }
     {
         for _call in self.row().lot().runtime().forever() {
             let call = ReadInTime::<RECURSIVE>;
-            if !self.place().own_in_time(call, deadline, clock, party) {
-                return false;
+            let had = self.word().nothing_held();
+            let (owns, held) = self.place().own_in_time(call, had, deadline, clock, party);
+            if !owns {
+                self.place().end(held);
+                return None;
             }
+            let reader = self.place().reader(held);
             if !self.is_overfull() {
-                return true;
+                return Some(reader);
             }
-            self.unlock_shared(self.shared_token());
+            self.stops_reading(reader);
             thread_yield();
         }
         unreachable!()
@@ -57,22 +64,84 @@ impl<'t, 'l, R: Wait, const RECURSIVE: u8, A: Allocator> RawRwLock<'t, 'l, R, RE
         deadline: Instant,
         clock: &C,
         party: &mut ThreadData<A>,
-    ) -> bool
-        ensures { MatchBool result (TimedRwEnded asking_in_time (Makes (Done Owned)))
-            (TimedRwEnded asking_in_time GivesUp) }
+    ) -> Option<Upgradable>
+        ensures name { IfSome result (λ owner. owner ≡ self.now.row.shared.now.word) }
+        ensures ended { MatchOption result (TimedRwEnded asking_in_time GivesUp)
+            (λ _. TimedRwEnded asking_in_time (Makes (Done Owned))) }
     {
         for _call in self.row().lot().runtime().forever() {
             let call = AskUpgradablyInTime;
-            if !self.place().own_in_time(call, deadline, clock, party) {
-                return false;
+            let had = self.word().nothing_held();
+            let (owns, held) = self.place().own_in_time(call, had, deadline, clock, party);
+            if !owns {
+                self.place().end(held);
+                return None;
             }
+            let owner = self.place().upgradable(held);
             if !self.is_overfull() {
-                return true;
+                return Some(owner);
             }
-            self.disown(Disown);
+            self.disowns_slowly(Disown, owner);
             thread_yield();
         }
         unreachable!()
+    }
+
+    /// Asks to write until the moment.
+    fn write_in_time<C: Clock>(
+        &self,
+        deadline: Instant,
+        clock: &C,
+        party: &mut ThreadData<A>,
+    ) -> Option<Exclusive>
+        ensures name { IfSome result (λ owner. owner ≡ self.now.row.shared.now.word) }
+        ensures ended { MatchOption result (TimedRwEnded writing_in_time GivesUp)
+            (λ _. TimedRwEnded writing_in_time (Makes (Done Owned))) }
+    {
+        let had = self.word().nothing_held();
+        let (owns, held) = self
+            .place()
+            .own_in_time(WriteInTime, had, deadline, clock, party);
+        if owns {
+            Some(self.place().exclusive(held))
+        } else {
+            self.place().end(held);
+            None
+        }
+    }
+
+    /// The upgradable hold has become one that waits for readers at this word: it waits until the moment, and is the
+    /// upgradable one again where it gives up.
+    fn upgrade_in_time<C: Clock>(
+        &self,
+        pending: Pending,
+        word: u64,
+        until: (Instant, &C),
+        party: &mut ThreadData<A>,
+    ) -> Result<Exclusive, Upgradable>
+        requires { pending ≡ self.now.row.shared.now.word }
+        ensures won { IfOk result (λ owner. owner ≡ self.now.row.shared.now.word) }
+        ensures lost { IfErr result (λ owner. owner ≡ self.now.row.shared.now.word) }
+        ensures ended { MatchResult result (λ _. TimedRwEnded upgrading_in_time (Makes (Done Owned)))
+            (λ _. TimedRwEnded upgrading_in_time GivesUp) }
+    {
+        let (deadline, clock) = until;
+        let first = ActResult::Before(word);
+        let had = pending.into_held();
+        let place = self.place();
+        let (owns, held) = place.own_in_time_after(
+            UpgradeInTime,
+            first,
+            had,
+            deadline,
+            clock,
+            party,
+        );
+        if owns {
+            Ok(place.exclusive(held))
+        } else {
+            Err(place.upgradable(held))
+        }
     }
 
     /// Waits until a shared hold is owned, or until the moment by the clock that is handed in: then it is off the list,
@@ -91,15 +160,18 @@ impl<'t, 'l, R: Wait, const RECURSIVE: u8, A: Allocator> RawRwLock<'t, 'l, R, RE
         clock: &C,
         party: &mut ThreadData<A>,
     ) -> Option<SharedToken>
-        ensures issued { IfSome result
-            (λ token. token ≡ (self.now.row.table.now.first_key + 2 * self.now.row.number) % 2 ^ 64) }
+        ensures name { IfSome result (λ token. token.0 ≡ self.now.row.shared.now.word) }
+        ensures key { IfSome result
+            (λ token. token.1 ≡ (self.now.row.table.now.first_key + 2 * self.now.row.number) % 2 ^ 64) }
         ensures call { MatchOption result (TimedRwEnded (reading_in_time RECURSIVE) GivesUp)
-            (λ _. RwOwned (RwEnded (Locking (Shared (RECURSIVE == 1))) Owned) (reading_in_time RECURSIVE)) }
+            (λ _. RwOwned (RwEnded (Locking (want.Shared (RECURSIVE == 1))) Owned) (reading_in_time RECURSIVE)) }
     {
-        if self.reads_at_once() || self.read_in_time(deadline, clock, party) {
-            Some(self.shared_token())
-        } else {
-            None
+        match self.reads_at_once() {
+            Some(reader) => Some(self.shared_token(reader)),
+            None => match self.read_in_time(deadline, clock, party) {
+                Some(reader) => Some(self.shared_token(reader)),
+                None => None,
+            },
         }
     }
 
@@ -115,14 +187,15 @@ impl<'t, 'l, R: Wait, const RECURSIVE: u8, A: Allocator> RawRwLock<'t, 'l, R, RE
         clock: &C,
         party: &mut ThreadData<A>,
     ) -> Option<SharedToken>
-        ensures issued { IfSome result
-            (λ token. token ≡ (self.now.row.table.now.first_key + 2 * self.now.row.number) % 2 ^ 64) }
+        ensures name { IfSome result (λ token. token.0 ≡ self.now.row.shared.now.word) }
+        ensures key { IfSome result
+            (λ token. token.1 ≡ (self.now.row.table.now.first_key + 2 * self.now.row.number) % 2 ^ 64) }
         ensures call { MatchOption result (TimedRwEnded (reading_in_time RECURSIVE) GivesUp)
-            (λ _. RwOwned (RwEnded (Locking (Shared (RECURSIVE == 1))) Owned) (reading_in_time RECURSIVE)) }
+            (λ _. RwOwned (RwEnded (Locking (want.Shared (RECURSIVE == 1))) Owned) (reading_in_time RECURSIVE)) }
     {
         match to_deadline(clock, timeout) {
             Some(deadline) => self.read_until(deadline, clock, party),
-            None => Some(self.lock_shared(party)),
+            None => Some(self.shared_token(self.reads(party))),
         }
     }
 
@@ -139,19 +212,18 @@ impl<'t, 'l, R: Wait, const RECURSIVE: u8, A: Allocator> RawRwLock<'t, 'l, R, RE
         clock: &C,
         party: &mut ThreadData<A>,
     ) -> Option<ExclusiveToken>
-        ensures issued { IfSome result
-            (λ token. token ≡ (self.now.row.table.now.first_key + 2 * self.now.row.number) % 2 ^ 64) }
+        ensures name { IfSome result (λ token. token.0 ≡ self.now.row.shared.now.word) }
+        ensures key { IfSome result
+            (λ token. token.1 ≡ (self.now.row.table.now.first_key + 2 * self.now.row.number) % 2 ^ 64) }
         ensures call { MatchOption result (TimedRwEnded writing_in_time GivesUp)
-            (λ _. RwOwned (RwEnded (Locking Exclusive) Owned) writing_in_time) }
+            (λ _. RwOwned (RwEnded (Locking want.Exclusive) Owned) writing_in_time) }
     {
-        if self.writes_at_once()
-            || self
-                .place()
-                .own_in_time(WriteInTime, deadline, clock, party)
-        {
-            Some(self.exclusive_token())
-        } else {
-            None
+        match self.writes_at_once() {
+            Some(owner) => Some(self.exclusive_token(owner)),
+            None => match self.write_in_time(deadline, clock, party) {
+                Some(owner) => Some(self.exclusive_token(owner)),
+                None => None,
+            },
         }
     }
 
@@ -166,14 +238,15 @@ impl<'t, 'l, R: Wait, const RECURSIVE: u8, A: Allocator> RawRwLock<'t, 'l, R, RE
         clock: &C,
         party: &mut ThreadData<A>,
     ) -> Option<ExclusiveToken>
-        ensures issued { IfSome result
-            (λ token. token ≡ (self.now.row.table.now.first_key + 2 * self.now.row.number) % 2 ^ 64) }
+        ensures name { IfSome result (λ token. token.0 ≡ self.now.row.shared.now.word) }
+        ensures key { IfSome result
+            (λ token. token.1 ≡ (self.now.row.table.now.first_key + 2 * self.now.row.number) % 2 ^ 64) }
         ensures call { MatchOption result (TimedRwEnded writing_in_time GivesUp)
-            (λ _. RwOwned (RwEnded (Locking Exclusive) Owned) writing_in_time) }
+            (λ _. RwOwned (RwEnded (Locking want.Exclusive) Owned) writing_in_time) }
     {
         match to_deadline(clock, timeout) {
             Some(deadline) => self.write_until(deadline, clock, party),
-            None => Some(self.lock_exclusive(party)),
+            None => Some(self.exclusive_token(self.writes(party))),
         }
     }
 
@@ -189,15 +262,18 @@ impl<'t, 'l, R: Wait, const RECURSIVE: u8, A: Allocator> RawRwLock<'t, 'l, R, RE
         clock: &C,
         party: &mut ThreadData<A>,
     ) -> Option<UpgradableToken>
-        ensures issued { IfSome result
-            (λ token. token ≡ (self.now.row.table.now.first_key + 2 * self.now.row.number) % 2 ^ 64) }
+        ensures name { IfSome result (λ token. token.0 ≡ self.now.row.shared.now.word) }
+        ensures key { IfSome result
+            (λ token. token.1 ≡ (self.now.row.table.now.first_key + 2 * self.now.row.number) % 2 ^ 64) }
         ensures call { MatchOption result (TimedRwEnded asking_in_time GivesUp)
             (λ _. RwOwned (UpgradeEnded call.Locking Owned) asking_in_time) }
     {
-        if self.upgradable_at_once() || self.own_upgradable_in_time(deadline, clock, party) {
-            Some(self.upgradable_token())
-        } else {
-            None
+        match self.upgradable_at_once() {
+            Some(owner) => Some(self.upgradable_token(owner)),
+            None => match self.own_upgradable_in_time(deadline, clock, party) {
+                Some(owner) => Some(self.upgradable_token(owner)),
+                None => None,
+            },
         }
     }
 
@@ -213,14 +289,15 @@ impl<'t, 'l, R: Wait, const RECURSIVE: u8, A: Allocator> RawRwLock<'t, 'l, R, RE
         clock: &C,
         party: &mut ThreadData<A>,
     ) -> Option<UpgradableToken>
-        ensures issued { IfSome result
-            (λ token. token ≡ (self.now.row.table.now.first_key + 2 * self.now.row.number) % 2 ^ 64) }
+        ensures name { IfSome result (λ token. token.0 ≡ self.now.row.shared.now.word) }
+        ensures key { IfSome result
+            (λ token. token.1 ≡ (self.now.row.table.now.first_key + 2 * self.now.row.number) % 2 ^ 64) }
         ensures call { MatchOption result (TimedRwEnded asking_in_time GivesUp)
             (λ _. RwOwned (UpgradeEnded call.Locking Owned) asking_in_time) }
     {
         match to_deadline(clock, timeout) {
             Some(deadline) => self.upgradable_until(deadline, clock, party),
-            None => Some(self.lock_upgradable(party)),
+            None => Some(self.upgradable_token(self.owns_upgradably(party))),
         }
     }
 
@@ -242,21 +319,21 @@ impl<'t, 'l, R: Wait, const RECURSIVE: u8, A: Allocator> RawRwLock<'t, 'l, R, RE
         clock: &C,
         party: &mut ThreadData<A>,
     ) -> Result<ExclusiveToken, UpgradableToken>
+        requires { number_of guard.0 guard.1 ≡ number_of self.now.row.shared.now.word
+            ((self.now.row.table.now.first_key + 2 * self.now.row.number) % 2 ^ 64) }
         ensures token { MatchResult result (λ token. token ≡ guard) (λ token. token ≡ guard) }
         ensures call { MatchResult result (λ _. RwOwned (UpgradeEnded call.Upgrading Owned) upgrading_in_time)
             (λ _. TimedRwEnded upgrading_in_time GivesUp) }
     {
-        let Err(word) = self.upgrades_at_once() else {
-            return Ok(guard.exclusive());
-        };
-        let first = ActResult::Before(word);
-        if self
-            .place()
-            .own_in_time_after(UpgradeInTime, first, deadline, clock, party)
-        {
-            Ok(guard.exclusive())
-        } else {
-            Err(guard)
+        let (owner, key) = self.upgradable_parts(guard);
+        match self.upgrades_at_once(owner) {
+            Ok(owner) => Ok(ExclusiveToken::of(owner, key)),
+            Err((pending, word)) => {
+                match self.upgrade_in_time(pending, word, (deadline, clock), party) {
+                    Ok(owner) => Ok(ExclusiveToken::of(owner, key)),
+                    Err(owner) => Err(UpgradableToken::of(owner, key)),
+                }
+            }
         }
     }
 
@@ -276,6 +353,8 @@ impl<'t, 'l, R: Wait, const RECURSIVE: u8, A: Allocator> RawRwLock<'t, 'l, R, RE
         clock: &C,
         party: &mut ThreadData<A>,
     ) -> Result<ExclusiveToken, UpgradableToken>
+        requires { number_of guard.0 guard.1 ≡ number_of self.now.row.shared.now.word
+            ((self.now.row.table.now.first_key + 2 * self.now.row.number) % 2 ^ 64) }
         ensures token { MatchResult result (λ token. token ≡ guard) (λ token. token ≡ guard) }
         ensures call { MatchResult result (λ _. RwOwned (UpgradeEnded call.Upgrading Owned) upgrading_in_time)
             (λ _. TimedRwEnded upgrading_in_time GivesUp) }
@@ -294,10 +373,10 @@ impl<'t, 'l, R, const RECURSIVE: u8, A: Allocator> RawRwLockTimed
     type Instant = Instant;
 
     ghost shared_locked_in_time = { λ answer. MatchOption answer (TimedRwEnded (reading_in_time RECURSIVE) GivesUp)
-        (λ _. RwOwned (RwEnded (Locking (Shared (RECURSIVE == 1))) Owned) (reading_in_time RECURSIVE)) };
+        (λ _. RwOwned (RwEnded (Locking (want.Shared (RECURSIVE == 1))) Owned) (reading_in_time RECURSIVE)) };
 
     ghost exclusive_locked_in_time = { λ answer. MatchOption answer (TimedRwEnded writing_in_time GivesUp)
-        (λ _. RwOwned (RwEnded (Locking Exclusive) Owned) writing_in_time) };
+        (λ _. RwOwned (RwEnded (Locking want.Exclusive) Owned) writing_in_time) };
 
     fn try_lock_shared_for<C: Clock>(
         &self,
@@ -355,7 +434,8 @@ impl<'t, 'l, R, const RECURSIVE: u8, A: Allocator> RawRwLockUpgradeTimed
     ghost upgradable_locked_in_time = { λ answer. MatchOption answer (TimedRwEnded asking_in_time GivesUp)
         (λ _. RwOwned (UpgradeEnded call.Locking Owned) asking_in_time) };
 
-    ghost upgraded_in_time = { λ _ tried. MatchResult tried (λ _. RwOwned (UpgradeEnded call.Upgrading Owned) upgrading_in_time)
+    ghost upgraded_in_time = { λ _ tried. MatchResult tried
+        (λ _. RwOwned (UpgradeEnded call.Upgrading Owned) upgrading_in_time)
         (λ _. TimedRwEnded upgrading_in_time GivesUp) };
 
     fn try_lock_upgradable_for<C: Clock>(

@@ -1,10 +1,9 @@
 //! Upgradable holds of the raw reader-writer lock.
-ghost use Rattle.std.specs.Prelude.{◌≡◌, ◌+◌, ◌*◌, ◌/◌, ◌%◌, ◌^◌, ℕ, IfOk, IfSome, MatchOption};
-ghost use Rattle.std.specs.Prelude.{MatchResult, true};
+ghost use Rattle.std.specs.Prelude.{◌≡◌, ◌+◌, ◌*◌, ◌/◌, ◌%◌, ◌^◌, ℕ, MatchOption, MatchResult};
 ghost use Rattle.parking_lot_driver.specs.Ends.{UpgradeAdmitted, UpgradeEnded, UpgradeRefused};
-ghost use Rattle.parking_lot_driver.specs.Runs.{Ended};
+ghost use Rattle.parking_lot_driver.specs.Keys.{number_of};
 ghost use Rattle.parking_lot_protocol.specs.declared.act.CoreAnswer.{CoreAnswer};
-ghost use Rattle.parking_lot_protocol.specs.declared.act.CoreAnswer.TheVariants.{Owned, Released};
+ghost use Rattle.parking_lot_protocol.specs.declared.act.CoreAnswer.TheVariants.{Owned};
 ghost use Rattle.parking_lot_protocol_rw.specs.declared.upgrade_phase.Release.TheVariants as release;
 ghost use Rattle.parking_lot_protocol_rw.specs.declared.upgrade_phase.UpgradePhase.TheVariants.{Locking, Trying};
 ghost use Rattle.parking_lot_protocol_rw.specs.declared.upgrade_phase.UpgradePhase.TheVariants.{Unlocking};
@@ -13,92 +12,22 @@ ghost use Rattle.parking_lot_protocol_rw.specs.declared.upgrade_phase.UpgradePha
 ghost use Rattle.parking_lot_protocol_rw.specs.declared.upgrade_phase.UpgradePhase.TheVariants.{DowngradingToShared};
 ghost use Rattle.parking_lot_protocol_rw.specs.declared.upgrade_phase.UpgradePhase.TheVariants.{DowngradingToUpgradable};
 
+mod calls;
+
 use crate::raw_rwlock::RawRwLock;
 use crate::token::{ExclusiveToken, SharedToken, UpgradableToken};
 use lock_api_raw::{RawRwLockUpgrade, RawRwLockUpgradeDowngrade, RawRwLockUpgradeFair};
-use parking_lot_core::{ThreadData, thread_yield};
+use parking_lot_core::ThreadData;
 use parking_lot_driver::{
-    AskUpgradably, BumpUpgradable, Call, Disown, DisownFairly, DowngradeToShared,
-    DowngradeToUpgradable, TryToUpgrade, Upgrade,
+    Disown, DisownFairly, DowngradeToShared, DowngradeToUpgradable, ended_after_a_load,
+    ended_by_sum,
 };
-use parking_lot_protocol::word::{PARKED, READER, UPGRADABLE, WRITER, is_parked};
-use parking_lot_protocol::{ActResult, CoreAnswer};
+use parking_lot_protocol::CoreAnswer;
+use parking_lot_protocol::word::{PARKED, READER, UPGRADABLE, WRITER};
 use std::alloc::Allocator;
 use std::sync::Wait;
 
 impl<'t, 'l, R: Wait, const RECURSIVE: u8, A: Allocator> RawRwLock<'t, 'l, R, RECURSIVE, A> {
-    /// Asks until the upgradable hold is owned. A fair writer may hand the lock over to more readers than there may be:
-    /// then this one gives its hold back, and asks again.
-    fn own_upgradable<K: Call>(&self, call: K, party: &mut ThreadData<A>)
-        ensures { Ended K.Core.told K.Core.asks K.begun Owned }
-    {
-        self.own(call, party);
-        for _call in self.row().lot().runtime().forever() {
-            if !self.is_overfull() {
-                return;
-            }
-            self.disown(Disown);
-            thread_yield();
-            self.own(AskUpgradably, party);
-        }
-        unreachable!()
-    }
-
-    /// Asks for the upgradable hold where that isn't had at once.
-    #[cold]
-    #[inline(never)]
-    fn own_upgradable_slowly(&self, party: &mut ThreadData<A>)
-        ensures { UpgradeEnded Locking Owned }
-    {
-        self.own_upgradable(AskUpgradably, party);
-    }
-
-    /// Lets those that wait go before this thread.
-    #[cold]
-    #[inline(never)]
-    fn bump_upgradable_slowly(&self, party: &mut ThreadData<A>)
-        ensures { UpgradeEnded Bumping Owned }
-    {
-        self.own_upgradable(BumpUpgradable, party);
-    }
-
-    /// Gives the upgradable hold up by a call that has seen this word, where threads may sleep.
-    #[cold]
-    #[inline(never)]
-    fn disown_slowly<K: Call>(&self, call: K, word: u64)
-        ensures { (answer : CoreAnswer) × Ended K.Core.told K.Core.asks K.begun answer }
-    {
-        self.place().give_up(call, ActResult::Word(word));
-    }
-
-    /// Gives the upgradable hold up, whatever the word.
-    pub(crate) fn disown<K: Call>(&self, call: K)
-        ensures { (answer : CoreAnswer) × Ended K.Core.told K.Core.asks K.begun answer }
-    {
-        self.disown_slowly(call, self.row().load());
-    }
-
-    /// A hold has become another at this word, where threads may sleep: the core says whom to wake.
-    #[cold]
-    #[inline(never)]
-    fn convert_slowly<K: Call>(&self, call: K, word: u64)
-        ensures { (answer : CoreAnswer) × Ended K.Core.told K.Core.asks K.begun answer }
-    {
-        self.place().give_up(call, ActResult::Before(word));
-    }
-
-    /// The upgradable hold has become one that waits for readers at this word: the core says how.
-    #[cold]
-    #[inline(never)]
-    fn upgrade_slowly(&self, word: u64, party: &mut ThreadData<A>)
-        ensures { UpgradeEnded Upgrading Owned }
-    {
-        let first = ActResult::Before(word);
-        if self.place().ask_after(Upgrade, first, party) != CoreAnswer::Owned {
-            self.own(Upgrade, party);
-        }
-    }
-
     /// Makes the upgradable hold the exclusive one: new readers are kept out at once, and the others are waited for.
     ///
     /// ```text
@@ -108,13 +37,19 @@ impl<'t, 'l, R: Wait, const RECURSIVE: u8, A: Allocator> RawRwLock<'t, 'l, R, RE
     /// ```
     #[inline(always)]
     pub fn upgraded(&self, guard: UpgradableToken, party: &mut ThreadData<A>) -> ExclusiveToken
+        requires { number_of guard.0 guard.1 ≡ number_of self.now.row.shared.now.word
+            ((self.now.row.table.now.first_key + 2 * self.now.row.number) % 2 ^ 64) }
         ensures token { result ≡ guard }
         ensures call { UpgradeEnded Upgrading Owned }
     {
-        if let Err(word) = self.upgrades_at_once() {
-            self.upgrade_slowly(word, party);
+        let (owner, key) = self.upgradable_parts(guard);
+        match self.upgrades_at_once(owner) {
+            Ok(owner) => ExclusiveToken::of(owner, key),
+            Err((pending, word)) => ExclusiveToken::of(
+                self.upgrade_slowly(pending, word, party),
+                key,
+            ),
         }
-        guard.exclusive()
     }
 
     /// Makes the upgradable hold a shared one.
@@ -126,20 +61,20 @@ impl<'t, 'l, R: Wait, const RECURSIVE: u8, A: Allocator> RawRwLock<'t, 'l, R, RE
     /// ```
     #[inline(always)]
     pub fn downgraded_to_shared(&self, guard: UpgradableToken) -> SharedToken
+        requires { number_of guard.0 guard.1 ≡ number_of self.now.row.shared.now.word
+            ((self.now.row.table.now.first_key + 2 * self.now.row.number) % 2 ^ 64) }
         ensures token { result ≡ guard }
         ensures call { (answer : CoreAnswer) × UpgradeEnded DowngradingToShared answer }
     {
-        let kept = self.row().ends_by_sum(
-            DowngradeToShared,
-            UPGRADABLE.wrapping_neg(),
-            PARKED,
-            CoreAnswer::Owned,
-        );
-        if let Err(word) = kept {
-            self.convert_slowly(DowngradeToShared, word);
-            return guard.shared();
+        let (owner, key) = self.upgradable_parts(guard);
+        let (reader, word) = self.word().downgrade_upgradable(owner);
+        if (word / PARKED) % 2 == 0 {
+            let by = UPGRADABLE.wrapping_neg();
+            ended_by_sum(DowngradeToShared, by, word, CoreAnswer::Owned);
+            return SharedToken::of(reader, key);
         }
-        guard.shared()
+        let held = self.convert_slowly(DowngradeToShared, reader.into_held(), word);
+        SharedToken::of(self.place().reader(held), key)
     }
 
     /// Makes the exclusive hold an upgradable one.
@@ -151,60 +86,20 @@ impl<'t, 'l, R: Wait, const RECURSIVE: u8, A: Allocator> RawRwLock<'t, 'l, R, RE
     /// ```
     #[inline(always)]
     pub fn downgraded_to_upgradable(&self, guard: ExclusiveToken) -> UpgradableToken
+        requires { number_of guard.0 guard.1 ≡ number_of self.now.row.shared.now.word
+            ((self.now.row.table.now.first_key + 2 * self.now.row.number) % 2 ^ 64) }
         ensures token { result ≡ guard }
         ensures call { (answer : CoreAnswer) × UpgradeEnded DowngradingToUpgradable answer }
     {
-        let kept = self.row().ends_by_sum(
-            DowngradeToUpgradable,
-            READER + UPGRADABLE - WRITER,
-            PARKED,
-            CoreAnswer::Owned,
-        );
-        if let Err(word) = kept {
-            self.convert_slowly(DowngradeToUpgradable, word);
-            return guard.upgradable();
+        let (owner, key) = self.exclusive_parts(guard);
+        let (owner, word) = self.word().downgrade_to_upgradable(owner);
+        if (word / PARKED) % 2 == 0 {
+            let by = READER + UPGRADABLE - WRITER;
+            ended_by_sum(DowngradeToUpgradable, by, word, CoreAnswer::Owned);
+            return UpgradableToken::of(owner, key);
         }
-        guard.upgradable()
-    }
-}
-
-impl<'t, 'l, R, const RECURSIVE: u8, A: Allocator> RawRwLock<'t, 'l, R, RECURSIVE, A> {
-    /// Makes the upgradable hold the exclusive one at once, where nobody else reads. Else it is one that waits for
-    /// readers now, and the word before comes back.
-    #[inline(always)]
-    pub(crate) fn upgrades_at_once(&self) -> Result<(), u64>
-        ensures { IfOk result (λ _. UpgradeEnded Upgrading Owned) }
-    {
-        self.row()
-            .owns_by_sum(Upgrade, WRITER.wrapping_sub(READER + UPGRADABLE))
-    }
-
-    /// Gives the upgradable hold up at once, where nobody sleeps and one exchange does it.
-    #[inline(always)]
-    fn disowns_at_once(&self) -> bool
-        ensures { result ≡ true → UpgradeEnded (Unlocking release.Plain) Released }
-    {
-        let word = self.row().load();
-        if is_parked(word) {
-            return false;
-        }
-        let less = word.wrapping_add((READER + UPGRADABLE).wrapping_neg());
-        self.row()
-            .ends_after_a_load(Disown, word, less, CoreAnswer::Released)
-    }
-
-    /// The same of a fair release.
-    #[inline(always)]
-    fn disowns_fairly_at_once(&self) -> bool
-        ensures { result ≡ true → UpgradeEnded (Unlocking release.Fair) Released }
-    {
-        let word = self.row().load();
-        if is_parked(word) {
-            return false;
-        }
-        let less = word.wrapping_add((READER + UPGRADABLE).wrapping_neg());
-        self.row()
-            .ends_after_a_load(DisownFairly, word, less, CoreAnswer::Released)
+        let held = self.convert_slowly(DowngradeToUpgradable, owner.into_held(), word);
+        UpgradableToken::of(self.place().upgradable(held), key)
     }
 }
 
@@ -212,7 +107,7 @@ impl<'t, 'l, R, const RECURSIVE: u8, A: Allocator> RawRwLockUpgrade
     for RawRwLock<'t, 'l, R, RECURSIVE, A> {
     type UpgradableGuard = UpgradableToken;
 
-    ghost upgradable_by = { λ token. token };
+    ghost upgradable_by = { λ token. number_of token.0 token.1 };
 
     ghost upgradable_locked = { λ _. UpgradeEnded Locking Owned };
 
@@ -231,19 +126,17 @@ impl<'t, 'l, R, const RECURSIVE: u8, A: Allocator> RawRwLockUpgrade
     where
         R: Wait,
     {
-        if self.upgradable_at_once() {
-            return self.upgradable_token();
+        match self.upgradable_at_once() {
+            Some(owner) => self.upgradable_token(owner),
+            None => self.upgradable_token(self.own_upgradable_slowly(party)),
         }
-        self.own_upgradable_slowly(party);
-        self.upgradable_token()
     }
 
     #[inline(always)]
     fn try_lock_upgradable(&self) -> Option<UpgradableToken> {
-        if self.tries_to_own_upgradably() {
-            Some(self.upgradable_token())
-        } else {
-            None
+        match self.tries_to_own_upgradably() {
+            Some(owner) => Some(self.upgradable_token(owner)),
+            None => None,
         }
     }
 
@@ -252,9 +145,12 @@ impl<'t, 'l, R, const RECURSIVE: u8, A: Allocator> RawRwLockUpgrade
     where
         R: Wait,
     {
-        guard.spend();
-        if !self.disowns_at_once() {
-            self.disown(Disown);
+        match self.disowns_at_once(self.upgradable_of(guard)) {
+            Ok(word) => {
+                let less = word.wrapping_add((READER + UPGRADABLE).wrapping_neg());
+                ended_after_a_load(Disown, word, less, CoreAnswer::Released);
+            }
+            Err(owner) => self.disowns_slowly(Disown, owner),
         }
     }
 
@@ -268,10 +164,10 @@ impl<'t, 'l, R, const RECURSIVE: u8, A: Allocator> RawRwLockUpgrade
 
     #[inline(always)]
     fn try_upgrade(&self, guard: UpgradableToken) -> Result<ExclusiveToken, UpgradableToken> {
-        if self.try_by_exchange(TryToUpgrade, READER + UPGRADABLE, WRITER) {
-            Ok(guard.exclusive())
-        } else {
-            Err(guard)
+        let (owner, key) = self.upgradable_parts(guard);
+        match self.tries_to_upgrade(owner) {
+            Ok(owner) => Ok(ExclusiveToken::of(owner, key)),
+            Err(owner) => Err(UpgradableToken::of(owner, key)),
         }
     }
 }
@@ -287,9 +183,12 @@ impl<'t, 'l, R, const RECURSIVE: u8, A: Allocator> RawRwLockUpgradeFair
     where
         R: Wait,
     {
-        guard.spend();
-        if !self.disowns_fairly_at_once() {
-            self.disown(DisownFairly);
+        match self.disowns_at_once(self.upgradable_of(guard)) {
+            Ok(word) => {
+                let less = word.wrapping_add((READER + UPGRADABLE).wrapping_neg());
+                ended_after_a_load(DisownFairly, word, less, CoreAnswer::Released);
+            }
+            Err(owner) => self.disowns_slowly(DisownFairly, owner),
         }
     }
 
@@ -298,10 +197,11 @@ impl<'t, 'l, R, const RECURSIVE: u8, A: Allocator> RawRwLockUpgradeFair
     where
         R: Wait,
     {
-        if !self.row().owns_as_it_is(BumpUpgradable, PARKED) {
-            self.bump_upgradable_slowly(party);
+        if self.owns_upgradably_as_it_is() {
+            return guard;
         }
-        guard
+        let owner = self.upgradable_of(guard);
+        self.upgradable_token(self.bump_upgradable_slowly(owner, party))
     }
 }
 

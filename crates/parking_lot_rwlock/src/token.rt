@@ -1,141 +1,193 @@
-//! The tokens of the raw reader-writer lock, a type for each kind of hold. Nobody outside this crate makes one, so
-//! whoever has one got it of a lock, for a hold of this kind.
+//! The tokens of the raw reader-writer lock, a type for each kind of hold. Nobody can make one, so whoever has one got
+//! it of a lock.
 //!
-//! They take no memory, and carry the number of their lock, which contracts alone see. They may be handed to another
-//! thread. They can be neither copied nor dropped, so each is given back, and given back once.
+//! **A token is a right to its lock.** It comes from the lock's word by a step that changes its number, or is handed
+//! over, and its release lays it there again. They take no memory, and carry the name of their lock and the key of
+//! those that want it, which contracts alone see. They may be handed to another thread. They can be neither copied nor
+//! dropped, so each is given back, and given back once.
 ghost use Rattle.std.specs.Prelude.{◌≡◌};
 
-use lock_api_raw::GuardSend;
+use lock_word::{Exclusive, Reader, Upgradable};
+use parking_lot_driver::Key;
 use std::marker::Model;
 
-/// That a lock is held to be read.
+/// That a lock is held to be read: one reader's share of it.
 pub struct SharedToken {
-    token: GuardSend,
+    right: Reader,
+    key: Key,
 }
 
 impl Model for SharedToken {
     ghost use Rattle.std.specs.Prelude.{ℕ};
 
-    ghost Value = { ℕ };
+    ghost Value = { ℕ × ℕ };
 
-    ghost view = { λ guard. guard.token };
+    ghost view = { λ token. (token.right, token.key.value) };
 }
 
 impl SharedToken {
-    /// A token of the lock with this number.
+    /// The token for a right to a lock with this key.
     #[inline(always)]
-    pub(crate) fn new(number: u64) -> SharedToken
-        ensures { result ≡ number }
+    pub(crate) fn of(right: Reader, key: Key) -> SharedToken
+        ensures { result ≡ (right, key.value) }
     {
-        SharedToken {
-            token: GuardSend::new(&number),
-        }
+        SharedToken { right, key }
     }
 
-    /// Ends the token.
+    /// The right to the lock, and the key.
     #[inline(always)]
-    pub(crate) fn spend(self) {
-        let SharedToken { token } = self;
-        token.spend();
+    pub(crate) fn into_parts(self) -> (Reader, Key)
+        ensures right { result.0 ≡ self.0 }
+        ensures key { result.1.value ≡ self.1 }
+    {
+        let SharedToken { right, key } = self;
+        (right, key)
+    }
+
+    /// The right to the lock.
+    #[inline(always)]
+    pub(crate) fn into_right(self) -> Reader
+        ensures { result ≡ self.0 }
+    {
+        let (right, key) = self.into_parts();
+        key.end();
+        right
     }
 }
 
-/// That a lock is held to be written.
+/// That a lock is held to be written: **the one right to write** under it, beside which nobody has another.
 pub struct ExclusiveToken {
-    token: GuardSend,
+    right: Exclusive,
+    key: Key,
 }
 
 impl Model for ExclusiveToken {
     ghost use Rattle.std.specs.Prelude.{ℕ};
 
-    ghost Value = { ℕ };
+    ghost Value = { ℕ × ℕ };
 
-    ghost view = { λ guard. guard.token };
+    ghost view = { λ token. (token.right, token.key.value) };
 }
 
 impl ExclusiveToken {
-    /// A token of the lock with this number.
+    /// The token for a right to a lock with this key.
     #[inline(always)]
-    pub(crate) fn new(number: u64) -> ExclusiveToken
-        ensures { result ≡ number }
+    pub(crate) fn of(right: Exclusive, key: Key) -> ExclusiveToken
+        ensures { result ≡ (right, key.value) }
     {
-        ExclusiveToken {
-            token: GuardSend::new(&number),
-        }
+        ExclusiveToken { right, key }
     }
 
-    /// Ends the token.
+    /// The right to the lock, and the key.
     #[inline(always)]
-    pub(crate) fn spend(self) {
-        let ExclusiveToken { token } = self;
-        token.spend();
+    pub(crate) fn into_parts(self) -> (Exclusive, Key)
+        ensures right { result.0 ≡ self.0 }
+        ensures key { result.1.value ≡ self.1 }
+    {
+        let ExclusiveToken { right, key } = self;
+        (right, key)
     }
 
-    /// The hold has become one to read.
+    /// The right to the lock.
     #[inline(always)]
-    pub(crate) fn shared(self) -> SharedToken
-        ensures { result ≡ self }
+    pub(crate) fn into_right(self) -> Exclusive
+        ensures { result ≡ self.0 }
     {
-        let ExclusiveToken { token } = self;
-        SharedToken { token }
+        let (right, key) = self.into_parts();
+        key.end();
+        right
     }
 
-    /// The hold has become an upgradable one.
-    #[inline(always)]
-    pub(crate) fn upgradable(self) -> UpgradableToken
-        ensures { result ≡ self }
+    /// Two threads never write under one lock: a program in which they did could go no further.
+    ///
+    /// ```text
+    /// token.never_two(another);   // of the same lock: nobody can have both
+    /// ```
+    pub fn never_two(self, other: ExclusiveToken)
+        requires { self.0 ≡ other.0 }
+        ensures { ⊥ }
     {
-        let ExclusiveToken { token } = self;
-        UpgradableToken { token }
+        self.into_right().never_two(other.into_right());
+    }
+
+    /// Nobody reads under a lock while somebody writes.
+    ///
+    /// ```text
+    /// writer.never_beside_reader(reader);   // of the same lock: nobody can have both
+    /// ```
+    pub fn never_beside_reader(self, reader: SharedToken)
+        requires { self.0 ≡ reader.0 }
+        ensures { ⊥ }
+    {
+        self.into_right().never_beside_reader(reader.into_right());
+    }
+
+    /// Nobody has the upgradable hold of a lock while somebody writes.
+    ///
+    /// ```text
+    /// writer.never_beside_upgradable(owner);   // of the same lock: nobody can have both
+    /// ```
+    pub fn never_beside_upgradable(self, owner: UpgradableToken)
+        requires { self.0 ≡ owner.0 }
+        ensures { ⊥ }
+    {
+        self.into_right()
+            .never_beside_upgradable(owner.into_right());
     }
 }
 
 /// That a lock is held to be read, by the one thread that may go on to write.
 pub struct UpgradableToken {
-    token: GuardSend,
+    right: Upgradable,
+    key: Key,
 }
 
 impl Model for UpgradableToken {
     ghost use Rattle.std.specs.Prelude.{ℕ};
 
-    ghost Value = { ℕ };
+    ghost Value = { ℕ × ℕ };
 
-    ghost view = { λ guard. guard.token };
+    ghost view = { λ token. (token.right, token.key.value) };
 }
 
 impl UpgradableToken {
-    /// A token of the lock with this number.
+    /// The token for a right to a lock with this key.
     #[inline(always)]
-    pub(crate) fn new(number: u64) -> UpgradableToken
-        ensures { result ≡ number }
+    pub(crate) fn of(right: Upgradable, key: Key) -> UpgradableToken
+        ensures { result ≡ (right, key.value) }
     {
-        UpgradableToken {
-            token: GuardSend::new(&number),
-        }
+        UpgradableToken { right, key }
     }
 
-    /// Ends the token.
+    /// The right to the lock, and the key.
     #[inline(always)]
-    pub(crate) fn spend(self) {
-        let UpgradableToken { token } = self;
-        token.spend();
+    pub(crate) fn into_parts(self) -> (Upgradable, Key)
+        ensures right { result.0 ≡ self.0 }
+        ensures key { result.1.value ≡ self.1 }
+    {
+        let UpgradableToken { right, key } = self;
+        (right, key)
     }
 
-    /// The hold has become one to write.
+    /// The right to the lock.
     #[inline(always)]
-    pub(crate) fn exclusive(self) -> ExclusiveToken
-        ensures { result ≡ self }
+    pub(crate) fn into_right(self) -> Upgradable
+        ensures { result ≡ self.0 }
     {
-        let UpgradableToken { token } = self;
-        ExclusiveToken { token }
+        let (right, key) = self.into_parts();
+        key.end();
+        right
     }
 
-    /// The hold has become one to read.
-    #[inline(always)]
-    pub(crate) fn shared(self) -> SharedToken
-        ensures { result ≡ self }
+    /// Two threads never have the upgradable hold of one lock: a program in which they did could go no further.
+    ///
+    /// ```text
+    /// token.never_two(another);   // of the same lock: nobody can have both
+    /// ```
+    pub fn never_two(self, other: UpgradableToken)
+        requires { self.0 ≡ other.0 }
+        ensures { ⊥ }
     {
-        let UpgradableToken { token } = self;
-        SharedToken { token }
+        self.into_right().never_two(other.into_right());
     }
 }

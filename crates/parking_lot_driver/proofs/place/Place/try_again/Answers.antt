@@ -1,6 +1,7 @@
 use Rattle.std.proofs.Common.{◌∙◌, ◌∷◌, [], ap, sym, subst, refl}
 use Rattle.parking_lot_protocol.specs.Acts.{Gives}
 use Rattle.parking_lot_protocol.specs.declared.act.ActResult.TheVariants.{Start, Word}
+use Rattle.parking_lot_driver.specs.Runs.{is_on_the_word}
 use Rattle.parking_lot_driver.proofs.place.Place.try_again.Goals as goal
 
 -- the core was told of the word, and of the one to which the exchange was lost
@@ -19,3 +20,14 @@ go_on_trying-requires-clause-told g c =
       c.next-3.ensures.core ∙ ap (λ core. told core (Word now)) looked,
       refl,
     )
+
+-- it goes on as it has begun
+pub go_on_trying-requires-clause-tries : goal.go_on_trying-requires-clause-tries
+go_on_trying-requires-clause-tries g c =
+    let told = g.K.Core.DecisionCore.told in
+    let laws = g.met.K.TryCall in
+    let begun = c.next.ensures.core ∙ ap (λ core. told core Start) c.begin-core.ensures in
+    let looked = c.next-2.ensures.core ∙ ap (λ core. told core (Word c.args.word)) begun in
+    let lost = c.next-3.ensures.core ∙ ap (λ core. told core (Word c.args.now)) looked in
+    subst g.K.TryCall.trying (sym lost) (laws.goes_on _ c.args.now
+    (laws.goes_on _ c.args.word laws.begins (ap is_on_the_word c.requires.first)) (ap is_on_the_word c.requires.then))

@@ -1,0 +1,18 @@
+use Rattle.std.proofs.Common.{◌∷◌, [], sym, subst, refl}
+use Rattle.parking_lot_protocol.specs.Timed.Courses.{EndedAt}
+use Rattle.parking_lot_protocol.specs.Acts.{Gives}
+use Rattle.parking_lot_protocol.specs.declared.act.ActResult.TheVariants.{Word, Exchanged}
+use Rattle.parking_lot_driver.proofs.at_once.ended_after_a_load.Goals as goal
+
+-- the core was told of the word, and that the exchange was won
+pub returns : goal.returns
+unfolding EndedAt
+returns g c =
+    let word = c.args._word in (
+      Exchanged ∷ Word word ∷ [],
+      (
+        (word, subst (λ act. Gives act word Exchanged) (sym c.requires.then) refl),
+        ((word, subst (λ act. Gives act word (Word word)) (sym c.requires.first) refl), tt),
+      ),
+      c.requires.last,
+    )
