@@ -1,6 +1,6 @@
 //! Tests of the condition variable and of one-time initialization, for what no clause of them says: their words, calls
-//! told one thing after another, which waiters are moved and woken, that no notification is lost, and that one closure
-//! at most ends well. The names of `parking_lot` are each used here, too.
+//! told one thing after another, which waiters are moved and woken, that no notification is lost, that a mutex excludes
+//! beside waits, and that one closure at most ends well. The names of `parking_lot` are each used here, too.
 #![tactic(auto)]
 
 #[cfg(test)]
@@ -23,6 +23,8 @@ mod once_stage;
 mod paths;
 #[cfg(test)]
 mod plays;
+#[cfg(test)]
+mod raw_crowd;
 #[cfg(test)]
 mod stage;
 #[cfg(test)]

@@ -1,0 +1,146 @@
+//! Four threads that take a raw mutex by each of its calls, and give it up by each: nobody else is inside meanwhile.
+ghost use Rattle.std.specs.Prelude.{◌≡◌, IfSome};
+
+use lock_api_raw::{
+    MakeCondvar, MakeLock, RawCondvarTimed, RawMutex as Raw, RawMutexFair, RawMutexTimed,
+};
+use parking_lot_core::{ParkingLot, ThreadData};
+use parking_lot_mutex::condvar::RawCondvar;
+use parking_lot_mutex::{LockTable, RawMutex};
+use std::rt::Clock;
+use std::sync::Wait;
+use std::sync::atomic::{AtomicU64, Ordering};
+use std::test::Fail;
+use std::thread;
+use std::time::{Duration, Instant};
+
+/// How often each thread asks for the mutex.
+const ROUNDS: usize = 10_000;
+
+fn short() -> Duration {
+    Duration::from_micros(20)
+}
+
+/// What the threads share: a mutex, and a sum that its owner alone may change.
+#[derive(Drop)]
+struct Shared<'t, 'l, R> {
+    mutex: RawMutex<'t, 'l, R>,
+    changed: RawCondvar<'t, 'l, R>,
+    sum: AtomicU64,
+    lot: &'l ParkingLot<R>,
+}
+
+/// Adds 1 in two steps, so one of two that are inside is lost.
+fn add(sum: &AtomicU64) {
+    let seen = sum.load(Ordering::SeqCst);
+    sum.store(seen.wrapping_add(1), Ordering::SeqCst);
+}
+
+/// Takes the mutex by the round's call.
+fn enter<M: RawMutexTimed<Duration = Duration, Instant = Instant>, C: Clock>(
+    mutex: &M,
+    clock: &C,
+    round: usize,
+    party: &mut M::Party,
+) -> Option<M::Guard>
+where
+    M::Runtime: Wait,
+    ensures { IfSome result (λ token. M.issued_by token ≡ M.number mutex.now) }
+{
+    match round % 4 {
+        0 => Some(mutex.lock(party)),
+        1 => mutex.try_lock(),
+        2 => mutex.try_lock_for(short(), clock, party),
+        _ => match Instant::now(clock) {
+            Ok(now) => mutex.try_lock_until(now, clock, party),
+            Err(_) => None,
+        },
+    }
+}
+
+/// Lets others go first by the round's call, or by none. The mutex is owned again then.
+fn give_way<M, V: RawCondvarTimed<RawMutex = M>, C: Clock>(
+    mutex: &M,
+    changed: &V,
+    clock: &C,
+    round: usize,
+    token: M::Guard,
+    party: &mut M::Party,
+) -> M::Guard
+where
+    M: RawMutexFair + RawMutexTimed<Duration = Duration, Instant = Instant>,
+    M::Runtime: Wait,
+    requires { M.issued_by token ≡ M.number mutex.now }
+    ensures { M.issued_by result ≡ M.number mutex.now }
+{
+    match round / 4 % 3 {
+        0 => mutex.bump(token, party),
+        1 => {
+            let (token, _) = changed.wait_for(mutex, token, short(), clock, party);
+            token
+        }
+        _ => token,
+    }
+}
+
+/// Gives the mutex up by the round's call.
+fn leave<M: RawMutexFair>(mutex: &M, round: usize, token: M::Guard)
+where
+    M::Runtime: Wait,
+    requires { M.issued_by token ≡ M.number mutex.now }
+{
+    match round / 12 % 2 {
+        0 => mutex.unlock(token),
+        _ => mutex.unlock_fair(token),
+    }
+}
+
+/// One round. Answers how often it was inside.
+fn goes<'t, 'l, R: Wait + Clock>(
+    shared: &Shared<'t, 'l, R>,
+    round: usize,
+    me: &mut ThreadData,
+) -> u64 {
+    let clock = shared.lot.runtime();
+    match enter(&shared.mutex, clock, round, me) {
+        Some(token) => {
+            add(&shared.sum);
+            let token = give_way(&shared.mutex, &shared.changed, clock, round, token, me);
+            add(&shared.sum);
+            leave(&shared.mutex, round, token);
+            2
+        }
+        None => 0,
+    }
+}
+
+/// All rounds of a thread.
+fn goes_on<'t, 'l, R: Wait + Clock>(shared: &Shared<'t, 'l, R>) -> u64 {
+    let Ok(mut me) = shared.lot.thread_data() else {
+        return 0;
+    };
+    let mut inside = 0u64;
+    for round in 0..ROUNDS {
+        inside = inside.wrapping_add(goes(shared, round, &mut me));
+    }
+    inside
+}
+
+#[test]
+fn a_mutex_excludes_by_whatever_call_it_is_taken(rt: HostRuntime) -> Result<(), Fail> {
+    let lot = ParkingLot::new(rt, rt.alloc(), 4, 7)?;
+    let table = LockTable::new(rt.alloc(), &lot, 2)?;
+    let shared = Shared {
+        mutex: RawMutex::new(&table, 1)?,
+        changed: RawCondvar::new(&table)?,
+        sum: AtomicU64::new(0),
+        lot: &lot,
+    };
+    let two = || thread::join(&rt, || goes_on(&shared), || goes_on(&shared));
+    let ((a, b), (c, d)) = thread::join(&rt, two, two);
+    let inside = a.wrapping_add(b).wrapping_add(c).wrapping_add(d);
+    let is_alone = shared.sum.load(Ordering::SeqCst) == inside;
+    let are_free = (table.word(0) == Some(0)) & (table.word(1) == Some(0));
+    assert!(rt; is_alone & are_free & (inside >= 20_000));
+    Ok(())
+}
