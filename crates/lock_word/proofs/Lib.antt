@@ -1,2 +1,4 @@
 pub mod Rights
 pub mod Claims
+pub mod Words
+pub mod Shares

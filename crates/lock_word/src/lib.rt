@@ -21,8 +21,11 @@ mod claim;
 mod handoff;
 mod lock_word;
 mod owner;
+mod rights_word;
+mod shared_claim;
 
 pub use claim::Claim;
 pub use handoff::HandoffWord;
 pub use lock_word::LockWord;
 pub use owner::Owner;
+pub use shared_claim::SharedClaim;

@@ -1,0 +1,150 @@
+-- How rights to a reader-writer lock move between a word and a claim: by what a step does to the number. Assumes `Logic`.
+use Rattle.std.proofs.Common.{◌≡◌, ◌⊎◌, ℕ, zero, suc, ◌+◌, ◌/◌, ◌%◌, ◌<◌, ◌≤◌, [], ◌∷◌, refl, sym, subst, arith}
+use mathlib.Core.Logic.{dite, inl, inr}
+use native.Mathlib.Decide.{dec_lt}
+use mathlib.Mathlib.Data.Part.{◌∈◌}
+use seplogic.Ra.Ura.{Ura}
+use base.Logic.{SProp, ent, sep, ex, guard, emp, all_e}
+use base.Fml.{Fml, ftrue, fsep, fown}
+use base.Graph.{sum_in, sum_out}
+use types.Logic.{Logic, sem}
+use types.Kit.{‵, ◌⊛◌, some, given, ◌$◌, ◌∵◌, !, qed, by, move, keep, drop, split, fsplit, fjoin, fpick, fpack, pick}
+use types.Kit.{learn, show, check, each, use0, use1, use2, rewrite, done}
+use types.Owned.{own_glued}
+use denote.Steps.{nothing}
+use Rattle.lock_word.specs.Rights.{Rights, amount, plus, Adds, IsPossible, rights, graph, same, one_sum, fewer}
+use Rattle.lock_word.specs.Rights.{Part, swapped}
+use Rattle.lock_word.specs.Sharing.{Says, MayFind, MayExchange, then_held, lying, MayLay, then_left, fact, has, rest}
+use Rattle.lock_word.specs.Sharing.{claimed, kept, May, then_has}
+
+-- what is had at the new number, and goes together
+pub exchanged : (had other all : Rights) (from to : ℕ) → Adds had other all → Says from all × IsPossible all
+    → MayExchange had from to
+    → Says to (plus (then_held had from to) other) × IsPossible (plus (then_held had from to) other)
+exchanged had other all from to adds says may = let find : MayFind had from = grind arith in
+    let covers = may find in grind arith
+
+module _ {M : Type 1} {𝓤 : Ura M} (𝓛 : Logic 𝓤) (name : ℕ) where
+  abbrev Pr : Type 2
+  Pr = SProp 𝓤
+
+  abbrev ◌⊢◌ : Pr → Pr → Type 1
+  P ⊢ Q = ent 𝓤 P Q
+
+  abbrev ◌∗◌ : Pr → Pr → Pr
+  P ∗ Q = sep 𝓤 P Q
+
+  abbrev ⟦◌⟧ : Fml → Pr
+  ⟦ P ⟧ = sem 𝓛 P
+
+  infix 26 ◌⊢◌
+  infixr 35 ◌∗◌
+
+  abbrev Has : Rights → Fml
+  Has = has name
+
+  abbrev Claimed : Rights → Fml
+  Claimed = claimed name
+
+  abbrev Rest : Rights → Fml
+  Rest = rest name
+
+  taken : (had : Rights) → 0 < amount had → ⟦ Claimed had ⟧ ⊢ ⟦ Has had ⟧
+  taken had holds = all_e 𝓤 (λ (_ : 0 < amount had). ⟦ Has had ⟧) holds
+
+  lay : (had : Rights) → ⟦ Has had ⟧ ⊢ ⟦ Claimed had ⟧
+  lay had = qed 𝓛 (‵ (Has had) ∷ []) ∵ each ! (λ (_ : 0 < amount had). ⟦ Has had ⟧) (λ _. done !)
+
+  pub no_rights : (had : Rights) → amount had ≡ 0 → emp 𝓤 ⊢ ⟦ Claimed had ⟧
+  no_rights had none = qed 𝓛 [] ∵ each ! (λ (_ : 0 < amount had). ⟦ Has had ⟧) (λ holds. absurd (omega arith))
+
+  -- rights that are had beside the rest, and the rest without them
+  joined : (had all : Rights) → ⟦ Rest all ⟧ ∗ ⟦ Claimed had ⟧
+      ⊢ ex 𝓤 (λ (other : Rights). guard 𝓤 (Adds had other all) ⟦ Rest other ⟧)
+  joined had all = dite (dec_lt 0 (amount had))
+      (λ holds. qed 𝓛 (‵ (Rest all) ∷ ‵ (Claimed had) ∷ []) ∵ move ! (1 ∷ []) $ use1 𝓛 (‵ (Has had)) (taken had holds) $
+      fsplit ! $ drop ! $ move ! (1 ∷ 0 ∷ []) $ by ! (own_glued 𝓛 rights name (inl all) (inr had) _ (glued had all)))
+      (λ fails. qed 𝓛 (‵ (Rest all) ∷ ‵ (Claimed had) ∷ []) ∵
+      show ! (λ (other : Rights). guard 𝓤 (Adds had other all) ⟦ Rest other ⟧) all $ check ! (grind arith) $
+      keep ! (0 ∷ []) $ done !)
+    where
+      glued : (had all : Rights) (x : Part) → x ∈ rights.op (inl all) (inr had) → ⟦ fown rights name x ⟧
+          ⊢ ex 𝓤 (λ (other : Rights). guard 𝓤 (Adds had other all) ⟦ Rest other ⟧)
+      glued had all (inl other) m = let is = sum_out graph (inl all) (inr had) (inl other) m in
+          qed 𝓛 (‵ (Rest other) ∷ []) ∵
+          show ! (λ (it : Rights). guard 𝓤 (Adds had it all) ⟦ Rest it ⟧) other $ check ! is.0 $ done !
+      glued had all (inr it) m = absurd (sum_out graph (inl all) (inr had) (inr it) m)
+
+  -- and apart again
+  parted : (had other all : Rights) → Adds had other all → IsPossible all
+      → ⟦ Rest other ⟧ ⊢ ⟦ Rest all ⟧ ∗ ⟦ Claimed had ⟧
+  parted had other all adds possible = let m = sum_in graph (inl all) (inr had) (inl other) (adds, possible) in
+      let goes_with : IsPossible had = fewer other had all (swapped had other all adds) possible in
+      qed 𝓛 (‵ (Rest other) ∷ []) ∵
+      use1 𝓛 (‵ (Rest all) ⊛ ‵ (fown rights name (inr had)))
+      (𝓛.algebras.own_cut rights name (inl all) (inr had) (inl other) m) $ split ! $ move ! (1 ∷ []) $
+      nothing ! $ fpack ! (IsPossible had) (λ _. ftrue) goes_with $ fjoin ! $
+      use1 𝓛 (‵ (Claimed had)) (lay had) $ move ! (1 ∷ 0 ∷ []) $ done !
+
+  -- two that are had are had together
+  both : (a b c : Rights) → Adds a b c → ⟦ Claimed a ⟧ ∗ ⟦ Claimed b ⟧ ⊢ ⟦ Claimed c ⟧
+  both a b c adds = dite (dec_lt 0 (amount a))
+      (λ some_a. dite (dec_lt 0 (amount b))
+      (λ some_b. qed 𝓛 (‵ (Claimed a) ∷ ‵ (Claimed b) ∷ []) ∵ use1 𝓛 (‵ (Has a)) (taken a some_a) $
+      move ! (1 ∷ []) $ use1 𝓛 (‵ (Has b)) (taken b some_b) $ fsplit ! $ drop ! $ move ! (1 ∷ []) $ fsplit ! $ drop ! $
+      by ! (own_glued 𝓛 rights name (inr a) (inr b) _ glued))
+      (λ no_b. let is : a ≡ c = same a c (grind arith) (grind arith) (grind arith) (grind arith) in
+      qed 𝓛 (‵ (Claimed a) ∷ ‵ (Claimed b) ∷ []) ∵ keep ! (0 ∷ []) $ rewrite ! 0 (λ r. ‵ (Claimed r)) is refl $ done !))
+      (λ no_a. let is : b ≡ c = same b c (grind arith) (grind arith) (grind arith) (grind arith) in
+      qed 𝓛 (‵ (Claimed a) ∷ ‵ (Claimed b) ∷ []) ∵ keep ! (1 ∷ []) $ rewrite ! 0 (λ r. ‵ (Claimed r)) is refl $ done !)
+    where
+      glued : (x : Part) → x ∈ rights.op (inr a) (inr b) → ⟦ fown rights name x ⟧ ⊢ ⟦ Claimed c ⟧
+      glued (inr d) m = let sum = sum_out graph (inr a) (inr b) (inr d) m in let is = one_sum a b d c sum.0 adds in
+          qed 𝓛 (‵ (fown rights name (inr d)) ∷ []) ∵ nothing ! $ fpack ! (IsPossible d) (λ _. ftrue) sum.1 $ fjoin ! $
+          rewrite ! 0 (λ r. ‵ (Has r)) is refl $ by ! (lay c)
+      glued (inl d) m = absurd (sum_out graph (inr a) (inr b) (inl d) m)
+
+  shared_out : (a b c : Rights) → Adds a b c → ⟦ Claimed c ⟧ ⊢ ⟦ Claimed a ⟧ ∗ ⟦ Claimed b ⟧
+  shared_out a b c adds = dite (dec_lt 0 (amount c))
+      (λ some_c. qed 𝓛 (‵ (Claimed c) ∷ []) ∵ use1 𝓛 (‵ (Has c)) (taken c some_c) $ fsplit ! $ fpick ! (λ possible. drop ! $
+      let m = sum_in graph (inr a) (inr b) (inr c) (adds, possible) in
+      use1 𝓛 (‵ (fown rights name (inr a)) ⊛ ‵ (fown rights name (inr b)))
+      (𝓛.algebras.own_cut rights name (inr a) (inr b) (inr c) m) $ split ! $
+      nothing ! $ fpack ! (IsPossible a) (λ _. ftrue) (fewer b a c (swapped a b c adds) possible) $ fjoin ! $
+      use1 𝓛 (‵ (Claimed a)) (lay a) $ move ! (1 ∷ []) $
+      nothing ! $ fpack ! (IsPossible b) (λ _. ftrue) (fewer a b c adds possible) $ fjoin ! $
+      use1 𝓛 (‵ (Claimed b)) (lay b) $ move ! (1 ∷ 0 ∷ []) $ done !))
+      (λ none. qed 𝓛 (‵ (Claimed c) ∷ []) ∵ drop ! $ use0 𝓛 (‵ (Claimed b)) (no_rights b (grind arith)) $
+      use0 𝓛 (‵ (Claimed a)) (no_rights a (grind arith)) $ done !)
+
+  -- THE STEPS
+
+  at_lock : (had : Rights) (from to : ℕ) → MayExchange had from to → ⟦ kept name 0 from ⟧ ∗ ⟦ Claimed had ⟧
+      ⊢ ⟦ kept name 0 to ⟧ ∗ ⟦ Claimed (then_held had from to) ⟧
+  at_lock had from to may = let Kept : Rights → Fml = λ all. fsep (fact (Says to all × IsPossible all)) (Rest all) in
+      let has' : Rights = then_held had from to in
+      qed 𝓛 (‵ (kept name 0 from) ∷ ‵ (Claimed had) ∷ []) ∵ fpick ! (λ all. fsplit ! $ fpick ! (λ says. drop ! $
+      use2 𝓛 (some (λ (other : Rights). given (Adds had other all) (‵ (Rest other)))) (joined had all) $
+      pick ! (λ other. learn ! (λ adds. let all' : Rights = plus has' other in
+      let new = exchanged had other all from to adds says may in
+      use1 𝓛 (‵ (Rest all') ⊛ ‵ (Claimed has')) (parted has' other all' (refl, refl, refl, refl) new.1) $ split ! $
+      nothing ! $ fpack ! (Says to all' × IsPossible all') (λ _. ftrue) new $ fjoin ! $
+      fpack ! Rights Kept all' $ done !))))
+
+  beside_it : (had : Rights) (from to : ℕ) → MayLay had from to → ⟦ Claimed (lying from) ⟧ ∗ ⟦ Claimed had ⟧
+      ⊢ ⟦ Claimed (lying to) ⟧ ∗ ⟦ Claimed (then_left had from to) ⟧
+  beside_it had from to may = let all : Rights = plus (lying from) had in
+      qed 𝓛 (‵ (Claimed (lying from)) ∷ ‵ (Claimed had) ∷ []) ∵
+      use2 𝓛 (‵ (Claimed all)) (both (lying from) had all (refl, refl, refl, refl)) $
+      by ! (shared_out (lying to) (then_left had from to) all (grind arith))
+
+  -- one law for all steps: whoever may change the number so has then what the numbers say
+  pub steps : (kind : ℕ) (had : Rights) (from to : ℕ) → May kind had from to → ⟦ kept name kind from ⟧ ∗ ⟦ Claimed had ⟧
+      ⊢ ⟦ kept name kind to ⟧ ∗ ⟦ Claimed (then_has kind had from to) ⟧
+  steps zero had from to may = at_lock had from to may
+  steps (suc k) had from to may = beside_it had from to may
+
+  -- a look changes nothing, and may always be made
+  pub may_look : (kind : ℕ) (had : Rights) (n : ℕ) → May kind had n n
+  may_look zero had n = λ find. grind arith
+  may_look (suc k) had n = grind arith
