@@ -1,11 +1,12 @@
 -- How rights to a reader-writer lock move between a word and a claim: by what a step does to the number. Assumes `Logic`.
-use Rattle.std.proofs.Common.{◌≡◌, ◌⊎◌, ℕ, zero, suc, ◌+◌, ◌/◌, ◌%◌, ◌<◌, ◌≤◌, [], ◌∷◌, refl, sym, subst, arith}
+use Rattle.std.proofs.Common.{◌≡◌, ◌≢◌, ◌⊎◌, ℕ, zero, suc, ◌+◌, ◌<◌, eqb, Bool, cond, [], ◌∷◌, refl, sym, subst, arith}
+use Rattle.std.proofs.Common.{eq-eqb, ne_eqb}
 use mathlib.Core.Logic.{dite, inl, inr}
-use native.Mathlib.Decide.{dec_lt}
+use native.Mathlib.Decide.{ℕ_discrete, dec_lt}
 use mathlib.Mathlib.Data.Part.{◌∈◌}
 use seplogic.Ra.Ura.{Ura}
-use base.Logic.{SProp, ent, sep, ex, guard, emp, all_e}
-use base.Fml.{Fml, ftrue, fsep, fown}
+use base.Logic.{SProp, ent, sep, ex, guard, emp, all_e, id⊢}
+use base.Fml.{Lft, Share, Fml, ftrue, fsep, fbor, flft, fown}
 use base.Graph.{sum_in, sum_out}
 use types.Logic.{Logic, sem}
 use types.Kit.{‵, ◌⊛◌, some, given, ◌$◌, ◌∵◌, !, qed, by, move, keep, drop, split, fsplit, fjoin, fpick, fpack, pick}
@@ -15,7 +16,12 @@ use denote.Steps.{nothing}
 use Rattle.lock_word.specs.Rights.{Rights, amount, plus, Adds, IsPossible, rights, graph, same, one_sum, fewer}
 use Rattle.lock_word.specs.Rights.{Part, swapped}
 use Rattle.lock_word.specs.Sharing.{Says, MayFind, MayExchange, then_held, lying, MayLay, then_left, fact, has, rest}
-use Rattle.lock_word.specs.Sharing.{claimed, kept, May, then_has}
+use Rattle.lock_word.specs.Sharing.{claimed, kept, word_at, May, then_has}
+use Rattle.lock_word.specs.Rights.{nothing as none, IsClash}
+use Rattle.lock_word.proofs.Words.{under}
+use Rattle.core.specs.Sync.RawAtomic.{asks, always}
+use prog.Atomic.{either}
+use denote.RawPtr.{block_ptr}
 
 -- what is had at the new number, and goes together
 pub exchanged : (had other all : Rights) (from to : ℕ) → Adds had other all → Says from all × IsPossible all
@@ -25,6 +31,8 @@ exchanged had other all from to adds says may = let find : MayFind had from = gr
     let covers = may find in grind arith
 
 module _ {M : Type 1} {𝓤 : Ura M} (𝓛 : Logic 𝓤) (name : ℕ) where
+  open 𝓛 use {A}
+
   abbrev Pr : Type 2
   Pr = SProp 𝓤
 
@@ -148,3 +156,59 @@ module _ {M : Type 1} {𝓤 : Ura M} (𝓛 : Logic 𝓤) (name : ℕ) where
   pub may_look : (kind : ℕ) (had : Rights) (n : ℕ) → May kind had n n
   may_look zero had n = λ find. grind arith
   may_look (suc k) had n = grind arith
+
+  -- nobody is in a new lock
+  pub begins : ⟦ Rest none ⟧ ⊢ ⟦ kept name 0 0 ⟧
+  begins = let Kept : Rights → Fml = λ all. fsep (fact (Says 0 all × IsPossible all)) (Rest all) in
+      qed 𝓛 (‵ (Rest none) ∷ []) ∵ nothing ! $ fpack ! (Says 0 none × IsPossible none) (λ _. ftrue) (grind arith) $
+      fjoin ! $ fpack ! Rights Kept none $ done !
+
+  -- two have what nobody has at one time
+  pub never : (a b : Rights) (X : Pr) → IsClash a b → ⟦ Claimed a ⟧ ∗ ⟦ Claimed b ⟧ ⊢ X
+  never a b X clash = qed 𝓛 (‵ (Claimed a) ∷ ‵ (Claimed b) ∷ []) ∵ use1 𝓛 (‵ (Has a)) (taken a clash.0) $
+      move ! (1 ∷ []) $ use1 𝓛 (‵ (Has b)) (taken b clash.1) $ fsplit ! $ drop ! $ move ! (1 ∷ []) $ fsplit ! $ drop ! $
+      by ! (own_glued 𝓛 rights name (inr a) (inr b) X glued)
+    where
+      glued : (x : Part) → x ∈ rights.op (inr a) (inr b) → ⟦ fown rights name x ⟧ ⊢ X
+      glued (inr c) m = let sum = sum_out graph (inr a) (inr b) (inr c) m in
+          absurd (clash.2 (subst IsPossible (one_sum a b c (plus a b) sum.0 (refl, refl, refl, refl)) sum.1))
+      glued (inl c) m = absurd (sum_out graph (inr a) (inr b) (inl c) m)
+
+  -- A STEP ON THE WORD
+
+  module _ (kind : ℕ) (κ : Lft) (q : Share) (b o : ℕ) (had : Rights) where
+    abbrev Kept : ℕ → Fml
+    Kept = kept name kind
+
+    pub looks : A.inv (fbor κ (word_at name kind b o)) ∗ A.lft κ q ∗ ⟦ Claimed had ⟧ ⊢ asks 𝓛 (block_ptr b (o + 0))
+        (λ n. n) always (λ n. fsep (flft κ q) (Claimed (then_has kind had n n)))
+    looks = under 𝓛 Kept b o κ q (λ n. n) (λ n. Claimed (then_has kind had n n)) (Claimed had)
+        (λ n. steps kind had n n (may_look kind had n))
+
+    module _ (from to : ℕ) (may : May kind had from to) where
+      -- what the claim has where the step found n
+      abbrev pub has_then : ℕ → Rights
+      has_then n = cond (eqb n from) (then_has kind had from to) had
+
+      abbrev number_then : ℕ → ℕ
+      number_then n = either (eqb n from) to n
+
+      -- the step is made where it finds what it was to find
+      found : (n : ℕ) → ⟦ Kept n ⟧ ∗ ⟦ Claimed had ⟧ ⊢ ⟦ Kept (number_then n) ⟧ ∗ ⟦ Claimed (has_then n) ⟧
+      found n = let Goes : Bool → Type 1 = λ y. ⟦ Kept n ⟧ ∗ ⟦ Claimed had ⟧
+          ⊢ ⟦ Kept (either y to n) ⟧ ∗ ⟦ Claimed (cond y (then_has kind had from to) had) ⟧ in
+          dite (ℕ_discrete n from)
+          (λ hit. subst Goes (sym (eq-eqb n from hit)) (subst (λ (k : ℕ). ⟦ Kept k ⟧ ∗ ⟦ Claimed had ⟧
+          ⊢ ⟦ Kept to ⟧ ∗ ⟦ Claimed (then_has kind had from to) ⟧) (sym hit) (steps kind had from to may)))
+          (λ miss. subst Goes (sym (ne_eqb n from miss)) (id⊢ 𝓤 _))
+
+      pub exchanges : A.inv (fbor κ (word_at name kind b o)) ∗ A.lft κ q ∗ ⟦ Claimed had ⟧
+          ⊢ asks 𝓛 (block_ptr b (o + 0)) number_then always (λ n. fsep (flft κ q) (Claimed (has_then n)))
+      exchanges = under 𝓛 Kept b o κ q number_then (λ n. Claimed (has_then n)) (Claimed had) found
+
+      pub won : (n : ℕ) → n ≡ from → has_then n ≡ then_has kind had from to
+      won n hit = subst (λ (y : Bool). cond y (then_has kind had from to) had ≡ then_has kind had from to)
+          (sym (eq-eqb n from hit)) refl
+
+      pub lost : (n : ℕ) → n ≢ from → has_then n ≡ had
+      lost n miss = subst (λ (y : Bool). cond y (then_has kind had from to) had ≡ had) (sym (ne_eqb n from miss)) refl
