@@ -1,5 +1,5 @@
 -- How rights to a reader-writer lock move between a word and a claim: by what a step does to the number. Assumes `Logic`.
-use Rattle.std.proofs.Common.{◌≡◌, ◌≢◌, ◌⊎◌, ℕ, zero, suc, ◌+◌, ◌<◌, eqb, Bool, cond, [], ◌∷◌, refl, sym, subst, arith}
+use Rattle.std.proofs.Common.{◌≡◌, ◌≢◌, ◌⊎◌, ℕ, zero, suc, ◌+◌, ◌<◌, eqb, Bool, true, cond, [], ◌∷◌, refl, sym, subst, arith}
 use Rattle.std.proofs.Common.{eq-eqb, ne_eqb}
 use mathlib.Core.Logic.{dite, inl, inr}
 use native.Mathlib.Decide.{ℕ_discrete, dec_lt}
@@ -16,19 +16,24 @@ use denote.Steps.{nothing}
 use Rattle.lock_word.specs.Rights.{Rights, amount, plus, Adds, IsPossible, rights, graph, same, one_sum, fewer}
 use Rattle.lock_word.specs.Rights.{Part, swapped}
 use Rattle.lock_word.specs.Sharing.{Says, MayFind, MayExchange, then_held, lying, MayLay, then_left, fact, has, rest}
-use Rattle.lock_word.specs.Sharing.{claimed, kept, word_at, May, then_has}
+use Rattle.lock_word.specs.Sharing.{claimed, kept, word_at, May, Finds, then_has}
 use Rattle.lock_word.specs.Rights.{nothing as none, IsClash}
 use Rattle.lock_word.proofs.Words.{under}
 use Rattle.core.specs.Sync.RawAtomic.{asks, always}
 use prog.Atomic.{either}
 use denote.RawPtr.{block_ptr}
 
--- what is had at the new number, and goes together
-pub exchanged : (had other all : Rights) (from to : ℕ) → Adds had other all → Says from all × IsPossible all
-    → MayExchange had from to
-    → Says to (plus (then_held had from to) other) × IsPossible (plus (then_held had from to) other)
-exchanged had other all from to adds says may = let find : MayFind had from = grind arith in
+-- What the numbers say: beside `other`, which others have, `had` is what the old one says, and `has` what the new one does.
+abbrev Fit : Rights → Rights → ℕ → ℕ → Type 0
+Fit had has from to = (other all : Rights) → Adds had other all → Says from all × IsPossible all
+    → MayFind had from × Says to (plus has other) × IsPossible (plus has other)
+
+exchange_fits : (had : Rights) (from to : ℕ) → MayExchange had from to → Fit had (then_held had from to) from to
+exchange_fits had from to may other all adds says = let find : MayFind had from = grind arith in
     let covers = may find in grind arith
+
+look_fits : (had : Rights) (n : ℕ) → Fit had had n n
+look_fits had n other all adds says = grind arith
 
 module _ {M : Type 1} {𝓤 : Ura M} (𝓛 : Logic 𝓤) (name : ℕ) where
   open 𝓛 use {A}
@@ -127,35 +132,45 @@ module _ {M : Type 1} {𝓤 : Ura M} (𝓛 : Logic 𝓤) (name : ℕ) where
 
   -- THE STEPS
 
-  at_lock : (had : Rights) (from to : ℕ) → MayExchange had from to → ⟦ kept name 0 from ⟧ ∗ ⟦ Claimed had ⟧
-      ⊢ ⟦ kept name 0 to ⟧ ∗ ⟦ Claimed (then_held had from to) ⟧
-  at_lock had from to may = let Kept : Rights → Fml = λ all. fsep (fact (Says to all × IsPossible all)) (Rest all) in
-      let has' : Rights = then_held had from to in
+  -- what a claim has after a step, and that it could find what it found
+  abbrev pub Then : ℕ → Rights → ℕ → Rights → Fml
+  Then kind had n has = fsep (fact (Finds kind had n)) (Claimed has)
+
+  at_lock : (had has : Rights) (from to : ℕ) → Fit had has from to → ⟦ kept name 0 from ⟧ ∗ ⟦ Claimed had ⟧
+      ⊢ ⟦ kept name 0 to ⟧ ∗ ⟦ Then 0 had from has ⟧
+  at_lock had has from to fit = let Kept : Rights → Fml = λ all. fsep (fact (Says to all × IsPossible all)) (Rest all) in
       qed 𝓛 (‵ (kept name 0 from) ∷ ‵ (Claimed had) ∷ []) ∵ fpick ! (λ all. fsplit ! $ fpick ! (λ says. drop ! $
       use2 𝓛 (some (λ (other : Rights). given (Adds had other all) (‵ (Rest other)))) (joined had all) $
-      pick ! (λ other. learn ! (λ adds. let all' : Rights = plus has' other in
-      let new = exchanged had other all from to adds says may in
-      use1 𝓛 (‵ (Rest all') ⊛ ‵ (Claimed has')) (parted has' other all' (refl, refl, refl, refl) new.1) $ split ! $
-      nothing ! $ fpack ! (Says to all' × IsPossible all') (λ _. ftrue) new $ fjoin ! $
-      fpack ! Rights Kept all' $ done !))))
+      pick ! (λ other. learn ! (λ adds. let new : Rights = plus has other in let so = fit other all adds says in
+      use1 𝓛 (‵ (Rest new) ⊛ ‵ (Claimed has)) (parted has other new (refl, refl, refl, refl) so.2) $ split ! $
+      nothing ! $ fpack ! (Says to new × IsPossible new) (λ _. ftrue) (so.1, so.2) $ fjoin ! $ fpack ! Rights Kept new $
+      move ! (1 ∷ []) $ nothing ! $ fpack ! (MayFind had from) (λ _. ftrue) so.0 $ fjoin ! $ move ! (1 ∷ 0 ∷ []) $
+      done !))))
 
-  beside_it : (had : Rights) (from to : ℕ) → MayLay had from to → ⟦ Claimed (lying from) ⟧ ∗ ⟦ Claimed had ⟧
-      ⊢ ⟦ Claimed (lying to) ⟧ ∗ ⟦ Claimed (then_left had from to) ⟧
-  beside_it had from to may = let all : Rights = plus (lying from) had in
+  beside_it : (had : Rights) (from to : ℕ) → MayLay had from to → ⟦ kept name 1 from ⟧ ∗ ⟦ Claimed had ⟧
+      ⊢ ⟦ kept name 1 to ⟧ ∗ ⟦ Then 1 had from (then_left had from to) ⟧
+  beside_it had from to may = let all : Rights = plus (lying from) had in let left = then_left had from to in
       qed 𝓛 (‵ (Claimed (lying from)) ∷ ‵ (Claimed had) ∷ []) ∵
       use2 𝓛 (‵ (Claimed all)) (both (lying from) had all (refl, refl, refl, refl)) $
-      by ! (shared_out (lying to) (then_left had from to) all (grind arith))
+      use1 𝓛 (‵ (Claimed (lying to)) ⊛ ‵ (Claimed left)) (shared_out (lying to) left all (grind arith)) $ split ! $
+      move ! (1 ∷ []) $ nothing ! $ fpack ! (Unit {0}) (λ _. ftrue) tt $ fjoin ! $ move ! (1 ∷ 0 ∷ []) $ done !
 
-  -- one law for all steps: whoever may change the number so has then what the numbers say
+  -- one law for all steps: whoever may change the number has then what the numbers say
   pub steps : (kind : ℕ) (had : Rights) (from to : ℕ) → May kind had from to → ⟦ kept name kind from ⟧ ∗ ⟦ Claimed had ⟧
-      ⊢ ⟦ kept name kind to ⟧ ∗ ⟦ Claimed (then_has kind had from to) ⟧
-  steps zero had from to may = at_lock had from to may
+      ⊢ ⟦ kept name kind to ⟧ ∗ ⟦ Then kind had from (then_has kind had from to) ⟧
+  steps zero had from to may = at_lock had (then_held had from to) from to (exchange_fits had from to may)
   steps (suc k) had from to may = beside_it had from to may
 
-  -- a look changes nothing, and may always be made
-  pub may_look : (kind : ℕ) (had : Rights) (n : ℕ) → May kind had n n
+  -- a look may always be made, and a step that is not made changes nothing
+  may_look : (kind : ℕ) (had : Rights) (n : ℕ) → May kind had n n
   may_look zero had n = λ find. grind arith
   may_look (suc k) had n = grind arith
+
+  stays : (kind : ℕ) (had : Rights) (n : ℕ) → ⟦ kept name kind n ⟧ ∗ ⟦ Claimed had ⟧
+      ⊢ ⟦ kept name kind n ⟧ ∗ ⟦ Then kind had n had ⟧
+  stays zero had n = at_lock had had n n (look_fits had n)
+  stays (suc k) had n = qed 𝓛 (‵ (kept name 1 n) ∷ ‵ (Claimed had) ∷ []) ∵ move ! (1 ∷ []) $
+      nothing ! $ fpack ! (Unit {0}) (λ _. ftrue) tt $ fjoin ! $ move ! (1 ∷ 0 ∷ []) $ done !
 
   -- nobody is in a new lock
   pub begins : ⟦ Rest none ⟧ ⊢ ⟦ kept name 0 0 ⟧
@@ -176,39 +191,36 @@ module _ {M : Type 1} {𝓤 : Ura M} (𝓛 : Logic 𝓤) (name : ℕ) where
 
   -- A STEP ON THE WORD
 
-  module _ (kind : ℕ) (κ : Lft) (q : Share) (b o : ℕ) (had : Rights) where
-    abbrev Kept : ℕ → Fml
-    Kept = kept name kind
+  module _ (kind : ℕ) (had : Rights) (from to : ℕ) where
+    -- what the claim has where an exchange found n
+    abbrev pub has_then : ℕ → Rights
+    has_then n = cond (eqb n from) (then_has kind had from to) had
 
+    pub won : (n : ℕ) → n ≡ from → has_then n ≡ then_has kind had from to
+    won n hit = subst (λ (y : Bool). cond y (then_has kind had from to) had ≡ then_has kind had from to)
+        (sym (eq-eqb n from hit)) refl
+
+    pub lost : (n : ℕ) → n ≢ from → has_then n ≡ had
+    lost n miss = subst (λ (y : Bool). cond y (then_has kind had from to) had ≡ had) (sym (ne_eqb n from miss)) refl
+
+    -- an exchange is made where it finds what it was to find
+    swaps : May kind had from to → (n : ℕ) → ⟦ kept name kind n ⟧ ∗ ⟦ Claimed had ⟧
+        ⊢ ⟦ kept name kind (either (eqb n from) to n) ⟧ ∗ ⟦ Then kind had n (has_then n) ⟧
+    swaps may n = let Goes : ℕ → Bool → Type 1 = λ k y. ⟦ kept name kind k ⟧ ∗ ⟦ Claimed had ⟧
+        ⊢ ⟦ kept name kind (either y to k) ⟧ ∗ ⟦ Then kind had k (cond y (then_has kind had from to) had) ⟧ in
+        dite (ℕ_discrete n from)
+        (λ hit. subst (Goes n) (sym (eq-eqb n from hit)) (subst (λ (k : ℕ). Goes k true) (sym hit)
+        (steps kind had from to may)))
+        (λ miss. subst (Goes n) (sym (ne_eqb n from miss)) (stays kind had n))
+
+  module _ (kind : ℕ) (κ : Lft) (q : Share) (b o : ℕ) (had : Rights) where
     pub looks : A.inv (fbor κ (word_at name kind b o)) ∗ A.lft κ q ∗ ⟦ Claimed had ⟧ ⊢ asks 𝓛 (block_ptr b (o + 0))
-        (λ n. n) always (λ n. fsep (flft κ q) (Claimed (then_has kind had n n)))
-    looks = under 𝓛 Kept b o κ q (λ n. n) (λ n. Claimed (then_has kind had n n)) (Claimed had)
+        (λ n. n) always (λ n. fsep (flft κ q) (Then kind had n (then_has kind had n n)))
+    looks = under 𝓛 (kept name kind) b o κ q (λ n. n) (λ n. Then kind had n (then_has kind had n n)) (Claimed had)
         (λ n. steps kind had n n (may_look kind had n))
 
-    module _ (from to : ℕ) (may : May kind had from to) where
-      -- what the claim has where the step found n
-      abbrev pub has_then : ℕ → Rights
-      has_then n = cond (eqb n from) (then_has kind had from to) had
-
-      abbrev number_then : ℕ → ℕ
-      number_then n = either (eqb n from) to n
-
-      -- the step is made where it finds what it was to find
-      found : (n : ℕ) → ⟦ Kept n ⟧ ∗ ⟦ Claimed had ⟧ ⊢ ⟦ Kept (number_then n) ⟧ ∗ ⟦ Claimed (has_then n) ⟧
-      found n = let Goes : Bool → Type 1 = λ y. ⟦ Kept n ⟧ ∗ ⟦ Claimed had ⟧
-          ⊢ ⟦ Kept (either y to n) ⟧ ∗ ⟦ Claimed (cond y (then_has kind had from to) had) ⟧ in
-          dite (ℕ_discrete n from)
-          (λ hit. subst Goes (sym (eq-eqb n from hit)) (subst (λ (k : ℕ). ⟦ Kept k ⟧ ∗ ⟦ Claimed had ⟧
-          ⊢ ⟦ Kept to ⟧ ∗ ⟦ Claimed (then_has kind had from to) ⟧) (sym hit) (steps kind had from to may)))
-          (λ miss. subst Goes (sym (ne_eqb n from miss)) (id⊢ 𝓤 _))
-
-      pub exchanges : A.inv (fbor κ (word_at name kind b o)) ∗ A.lft κ q ∗ ⟦ Claimed had ⟧
-          ⊢ asks 𝓛 (block_ptr b (o + 0)) number_then always (λ n. fsep (flft κ q) (Claimed (has_then n)))
-      exchanges = under 𝓛 Kept b o κ q number_then (λ n. Claimed (has_then n)) (Claimed had) found
-
-      pub won : (n : ℕ) → n ≡ from → has_then n ≡ then_has kind had from to
-      won n hit = subst (λ (y : Bool). cond y (then_has kind had from to) had ≡ then_has kind had from to)
-          (sym (eq-eqb n from hit)) refl
-
-      pub lost : (n : ℕ) → n ≢ from → has_then n ≡ had
-      lost n miss = subst (λ (y : Bool). cond y (then_has kind had from to) had ≡ had) (sym (ne_eqb n from miss)) refl
+    pub exchanges : (from to : ℕ) → May kind had from to
+        → A.inv (fbor κ (word_at name kind b o)) ∗ A.lft κ q ∗ ⟦ Claimed had ⟧ ⊢ asks 𝓛 (block_ptr b (o + 0))
+        (λ n. either (eqb n from) to n) always (λ n. fsep (flft κ q) (Then kind had n (has_then kind had from to n)))
+    exchanges from to may = under 𝓛 (kept name kind) b o κ q (λ n. either (eqb n from) to n)
+        (λ n. Then kind had n (has_then kind had from to n)) (Claimed had) (swaps kind had from to may)

@@ -83,6 +83,10 @@ abbrev pub May : ℕ → Rights → ℕ → ℕ → Type 0
 May zero had from to = MayExchange had from to
 May (suc k) had from to = MayLay had from to
 
+abbrev pub Finds : ℕ → Rights → ℕ → Type 0
+Finds zero had word = MayFind had word
+Finds (suc k) had word = Unit {0}
+
 abbrev pub then_has : ℕ → Rights → ℕ → ℕ → Rights
 then_has zero had from to = then_held had from to
 then_has (suc k) had from to = then_left had from to

@@ -1,7 +1,7 @@
 //! A word with rights to a reader-writer lock.
 ghost use Rattle.std.specs.Prelude.{◌≡◌, ◌≢◌, ℕ};
 ghost use Rattle.lock_word.specs.Rights.{nothing};
-ghost use Rattle.lock_word.specs.Sharing.{word_owns, word_shares, May, then_has};
+ghost use Rattle.lock_word.specs.Sharing.{word_owns, word_shares, May, Finds, then_has};
 
 use crate::shared_claim::SharedClaim;
 use atomic_table::exchange;
@@ -53,7 +53,8 @@ impl RightsWord {
     /// Loads the word. A writer that sees no readers in the lock's own word owns it alone.
     pub(crate) fn look(&self, claim: &mut SharedClaim) -> u64
         requires { claim.old.name ≡ self.now.0 }
-        ensures { (claim.new.name ≡ self.now.0) × (claim.new.held ≡ then_has self.now.1 claim.old.held result result) }
+        ensures { (claim.new.name ≡ self.now.0) × Finds self.now.1 claim.old.held result
+            × (claim.new.held ≡ then_has self.now.1 claim.old.held result result) }
     {
         unsafe { raw::load::<Brand>(&raw const self.word, SeqCst) }
     }
@@ -61,7 +62,7 @@ impl RightsWord {
     /// Writes `to` if the word is `from`, and answers the word as it was. Rights come and go with its number.
     pub(crate) fn exchange(&self, claim: &mut SharedClaim, from: u64, to: u64) -> u64
         requires { (claim.old.name ≡ self.now.0) × May self.now.1 claim.old.held from to }
-        ensures { (claim.new.name ≡ self.now.0)
+        ensures { (claim.new.name ≡ self.now.0) × Finds self.now.1 claim.old.held result
             × (result ≡ from → claim.new.held ≡ then_has self.now.1 claim.old.held from to)
             × (result ≢ from → claim.new.held ≡ claim.old.held) }
     {

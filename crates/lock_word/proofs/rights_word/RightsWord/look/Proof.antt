@@ -15,8 +15,8 @@ use Rattle.atomic_table.proofs.Walks.{proved, leaves}
 use Rattle.atomic_table.proofs.Calls.{fm, seq_cst, found, finds, loads}
 use Rattle.core.proofs.atomic.Steps.{tail}
 use Rattle.lock_word.specs.Rights.{Rights}
-use Rattle.lock_word.specs.Sharing.{then_has, claimed}
-use Rattle.lock_word.proofs.Shares.{looks}
+use Rattle.lock_word.specs.Sharing.{Finds, then_has, claimed}
+use Rattle.lock_word.proofs.Shares.{Then, looks}
 use Rattle.lock_word.specs.contracts.shared_claim.SharedClaim as claim
 use Rattle.lock_word.specs.contracts.rights_word.RightsWord as lock
 use Rattle.lock_word.specs.contracts.rights_word.RightsWord.look.{ended, clauses}
@@ -76,7 +76,7 @@ look_spec 𝓤 𝓛 𝓜 𝓡 wired =
     use2 𝓛 (later (some (λ (s : Share). ‵ (flft α s) ⊛ raw (wand 𝓤 (𝓛.A.lft α s) (H.⇛ (𝓛.A.lft κ q))))))
     (Lends-one 𝓛 𝓜 𝓡 κ α q) $ await ! tt $ pick ! (λ s. split ! $
     let then : ℕ → Rights = λ n. then_has kind had.held n n in
-    let after : ℕ → Fml = λ n. fsep (flft α s) (claimed name (then n)) in
+    let after : ℕ → Fml = λ n. fsep (flft α s) (Then 𝓛 name kind had.held n (then n)) in
     first ! $ blocks ! $ sets ! (addr ! (through ! refl (fld ! refl (stop !)))) refl (tt, tt) $
     move ! (3 ∷ 4 ∷ 5 ∷ []) $ opens ! tt claim.the_row b' o' (λ ts. move ! (1 ∷ []) $ fsplit ! $
     rewrite ! 1 (λ (x : ℕ). ‵ (claimed x had.held)) asked refl $ move ! (8 ∷ 6 ∷ 1 ∷ []) $
@@ -89,14 +89,15 @@ look_spec 𝓤 𝓛 𝓜 𝓡 wired =
     sets ! (of_opd ! (get ! refl)) refl (tt, record { fits = fits }) $
     fsplit ! $ move ! (0 ∷ 7 ∷ []) $ use2 𝓛 (later (‵ (flft κ q))) (apply∗ 𝓤 (𝓛.A.lft α s) (H.⇛ (𝓛.A.lft κ q))) $
     await ! tt $
+    move ! (1 ∷ []) $ fsplit ! $ fpick ! (λ find. drop ! $ move ! (1 ∷ 0 ∷ []) $
     let has : claim.the_row.Denot = record { marker = had.marker; name = name; held = then n } in
-    let Told : Type 0 = (name ≡ name) × (then n ≡ then n) in
+    let Told : Type 0 = (name ≡ name) × Finds kind had.held n × (then n ≡ then n) in
     move ! (2 ∷ 1 ∷ []) $ fjoin ! $ move ! (2 ∷ 0 ∷ 3 ∷ 4 ∷ 5 ∷ []) $ closes ! tt claim.the_row has ts b' o' $
     feq_i ! (List Val) (vptr b' o' ∷ []) (vptr b' o' ∷ []) refl $ fjoin3 ! $
     nothing ! $ move ! (1 ∷ 0 ∷ []) $ fjoin ! $ nothing ! $ fjoin ! $
     move ! (1 ∷ 3 ∷ []) $ join ! $ move ! (2 ∷ 0 ∷ []) $ join ! $
     use0 𝓛 (raw (fact 𝓤 Told)) (fact_i 𝓤 Told (emp 𝓤)
-    (refl, refl)) $
+    (refl, find, refl)) $
     flt_i ! n (2 ^ 64) fits $ feq_i ! (List Val) (vint w64 n ∷ []) (vint w64 n ∷ []) refl $ fjoin ! $
     returns ! (look_at ! 0 refl) $ free_all ! refl $ keep ! (2 ∷ 3 ∷ 0 ∷ 1 ∷ []) $
-    by ! (leaves 𝓛 En hs c y (vint w64 n) n (tt, (has, tt)) (tt, (tt, tt)))))))))))
+    by ! (leaves 𝓛 En hs c y (vint w64 n) n (tt, (has, tt)) (tt, (tt, tt))))))))))))
