@@ -39,9 +39,9 @@ abbrev pub Adds : Rights → Rights → Rights → Type 0
 Adds a b c = (a.readers + b.readers ≡ c.readers) × (a.upgradable + b.upgradable ≡ c.upgradable)
     × (a.pending + b.pending ≡ c.pending) × (a.exclusive + b.exclusive ≡ c.exclusive)
 
--- These can be had at one time: one upgradable right, one writer's, and no reader's share beside an exclusive one.
+-- These can be had at one time: one upgradable right or one of a writer, and no reader's share beside an exclusive one.
 abbrev pub IsPossible : Rights → Type 0
-IsPossible r = (r.upgradable ≤ 1) × (r.pending + r.exclusive ≤ 1) × (min r.readers 1 + r.exclusive ≤ 1)
+IsPossible r = (r.upgradable + r.pending + r.exclusive ≤ 1) × (min r.readers 1 + r.exclusive ≤ 1)
 
 -- Two have what nobody has at one time.
 abbrev pub IsClash : Rights → Rights → Type 0

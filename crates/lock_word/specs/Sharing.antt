@@ -25,17 +25,21 @@ abbrev pub Says : ℕ → Rights → Type 0
 Says word all = (all.readers ≡ readers_in word) × (all.upgradable ≡ upgradable_in word)
     × (all.pending + all.exclusive ≡ writer_in word)
 
--- One that has these may find this number: they are among those that it says, and an exclusive owner finds no readers.
+-- One that has these may find this number: they are among those that it says, an exclusive owner finds no readers, and
+-- there is no writer beside an upgradable owner.
 abbrev pub MayFind : Rights → ℕ → Type 0
 MayFind had word = (had.readers ≤ readers_in word) × (had.upgradable ≤ upgradable_in word)
     × (had.pending + had.exclusive ≤ writer_in word) × (min (readers_in word) 1 + had.exclusive ≤ 1)
+    × (upgradable_in word + writer_in word ≤ 1)
 
--- What the number doesn't say any longer comes from the one that changes it. And where an exclusive owner may be, who is
--- one at no other number than of a writer with no readers, nobody but the writer lets readers in.
+-- What the number doesn't say any longer comes from the one that changes it. It says no writer beside an upgradable
+-- owner. And where an exclusive owner may be, who is one at no other number than of a writer with no readers, nobody but
+-- the writer lets readers in.
 abbrev pub Covers : Rights → ℕ → ℕ → Type 0
 Covers had from to = (readers_in from ≤ had.readers + readers_in to)
     × (upgradable_in from ≤ had.upgradable + upgradable_in to)
     × (writer_in from ≤ had.pending + had.exclusive + writer_in to)
+    × (upgradable_in to + writer_in to ≤ 1)
     × (min (readers_in to) 1 + writer_in from ≤ readers_in from + had.pending + had.exclusive + 1)
 
 -- what one that has these may do
