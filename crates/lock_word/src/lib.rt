@@ -23,9 +23,11 @@ mod lock_word;
 mod owner;
 mod rights_word;
 mod shared_claim;
+mod shared_word;
 
 pub use claim::Claim;
 pub use handoff::HandoffWord;
 pub use lock_word::LockWord;
 pub use owner::Owner;
 pub use shared_claim::SharedClaim;
+pub use shared_word::SharedWord;

@@ -1,0 +1,77 @@
+//! The word of a reader-writer lock.
+ghost use Rattle.std.specs.Prelude.{◌≡◌, ◌≢◌, ℕ};
+ghost use Rattle.lock_word.specs.Rights.{nothing};
+ghost use Rattle.lock_word.specs.Sharing.{MayFind, MayExchange, then_held};
+
+use crate::rights_word::RightsWord;
+use crate::shared_claim::SharedClaim;
+use std::marker::Model;
+
+/// The word of a reader-writer lock: bit 3 says that there is a writer, bit 2 an upgradable owner, and the bits from 4 on
+/// how many readers there are. Bits 0 and 1 are anybody's.
+///
+/// In a clause it is the name of its lock. Threads read and change it in single steps, each in the one order that all
+/// threads see.
+#[derive(Drop)]
+pub struct SharedWord {
+    word: RightsWord,
+    ghost own: { word.1 ≡ 0 },
+}
+
+impl Model for SharedWord {
+    ghost use Rattle.std.specs.Prelude.{ℕ};
+
+    ghost Value = { ℕ };
+
+    ghost view = { λ it. it.word.0 };
+}
+
+impl SharedWord {
+    /// The word of a new lock, in which nobody is: it is 0.
+    pub fn new() -> SharedWord {
+        SharedWord {
+            word: RightsWord::new(),
+        }
+    }
+
+    /// A claim that is nothing.
+    #[inline(always)]
+    pub fn no_claim(&self) -> SharedClaim
+        ensures { (result.name ≡ self.now) × (result.held ≡ nothing) }
+    {
+        self.word.no_claim()
+    }
+
+    /// Loads the word.
+    #[inline(always)]
+    pub fn load(&self) -> u64 {
+        let mut claim = self.no_claim();
+        let word = self.look(&mut claim);
+        claim.end();
+        word
+    }
+
+    /// Loads the word. A writer that sees no readers owns the lock alone from then on.
+    #[inline(always)]
+    pub fn look(&self, claim: &mut SharedClaim) -> u64
+        requires { claim.old.name ≡ self.now }
+        ensures name { claim.new.name ≡ self.now }
+        ensures found { MayFind claim.old.held result }
+        ensures held { claim.new.held ≡ then_held claim.old.held result result }
+    {
+        self.word.look(claim)
+    }
+
+    /// Writes `to` if the word is `from`, and answers the word as it was. Rights come and go with its number.
+    #[inline(always)]
+    pub fn exchange(&self, claim: &mut SharedClaim, from: u64, to: u64) -> u64
+        requires name { claim.old.name ≡ self.now }
+        requires may { MayExchange claim.old.held from to }
+        ensures name { claim.new.name ≡ self.now }
+        ensures found { MayFind claim.old.held result }
+        ensures won { result ≡ from → claim.new.held ≡ then_held claim.old.held from to }
+        ensures lost { result ≢ from → claim.new.held ≡ claim.old.held }
+    {
+        self.word.exchange(claim, from, to)
+    }
+}
