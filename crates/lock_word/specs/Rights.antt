@@ -22,6 +22,20 @@ pub record Rights : Type 0 where
 abbrev pub nothing : Rights
 nothing = record { readers = 0; upgradable = 0; pending = 0; exclusive = 0 }
 
+-- What one has that reads, beside whom others may; that reads and may upgrade; that is to write, and waits for readers to
+-- leave; that writes.
+abbrev pub a_reader : Rights
+a_reader = record nothing { readers = 1 }
+
+abbrev pub an_upgradable : Rights
+an_upgradable = record nothing { readers = 1; upgradable = 1 }
+
+abbrev pub a_pending : Rights
+a_pending = record nothing { pending = 1 }
+
+abbrev pub an_exclusive : Rights
+an_exclusive = record nothing { exclusive = 1 }
+
 -- how many rights there are in all
 abbrev pub amount : Rights → ℕ
 amount r = r.readers + r.upgradable + r.pending + r.exclusive

@@ -23,6 +23,7 @@ mod lock_word;
 mod owner;
 mod rights_word;
 mod shared_claim;
+mod shared_rights;
 mod shared_word;
 
 pub use claim::Claim;
@@ -30,4 +31,5 @@ pub use handoff::HandoffWord;
 pub use lock_word::LockWord;
 pub use owner::Owner;
 pub use shared_claim::SharedClaim;
+pub use shared_rights::{Exclusive, Pending, Reader, Upgradable};
 pub use shared_word::SharedWord;
