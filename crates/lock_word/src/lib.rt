@@ -23,6 +23,7 @@ mod lock_word;
 mod owner;
 mod rights_word;
 mod shared_claim;
+mod shared_handoff;
 mod shared_rights;
 mod shared_word;
 
@@ -31,5 +32,6 @@ pub use handoff::HandoffWord;
 pub use lock_word::LockWord;
 pub use owner::Owner;
 pub use shared_claim::SharedClaim;
+pub use shared_handoff::SharedHandoff;
 pub use shared_rights::{Exclusive, Pending, Reader, Upgradable};
 pub use shared_word::SharedWord;

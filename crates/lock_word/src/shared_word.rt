@@ -34,6 +34,13 @@ impl SharedWord {
         }
     }
 
+    /// A word beside it, with which nothing lies.
+    pub(crate) fn beside(&self) -> RightsWord
+        ensures { (result.0 ≡ self.now) × (result.1 ≡ 1) }
+    {
+        self.word.beside()
+    }
+
     /// A claim that is nothing.
     #[inline(always)]
     pub fn no_claim(&self) -> SharedClaim

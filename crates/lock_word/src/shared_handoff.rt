@@ -1,0 +1,92 @@
+//! Handing rights to a reader-writer lock over.
+ghost use Rattle.std.specs.Prelude.{◌≡◌, ◌↔◌, IfErr, IfSome, IsTrue};
+ghost use Rattle.lock_word.specs.Rights.{Adds};
+ghost use Rattle.lock_word.specs.Sharing.{lying};
+
+use crate::rights_word::RightsWord;
+use crate::shared_claim::SharedClaim;
+use crate::shared_word::SharedWord;
+
+/// The word of a reader-writer lock, and a second word of it in which rights are left for other threads.
+///
+/// A number says which rights these are: 16 for each reader's share, 8 for a pending writer's right, 4 for an upgradable
+/// owner's, and 2 for an exclusive owner's.
+#[derive(Drop)]
+pub struct SharedHandoff {
+    word: SharedWord,
+    left: RightsWord,
+    ghost same: { left.0 ≡ word },
+    ghost beside: { left.1 ≡ 1 },
+}
+
+/// Whether the rights of these two numbers are those of the third.
+fn is_sum(first: u64, second: u64, sum: u64) -> bool
+    ensures { IsTrue result ↔ Adds (lying first) (lying second) (lying sum) }
+{
+    u128::from(first / 16) + u128::from(second / 16) == u128::from(sum / 16)
+        && first / 4 % 2 + second / 4 % 2 == sum / 4 % 2
+        && first / 8 % 2 + second / 8 % 2 == sum / 8 % 2
+        && first / 2 % 2 + second / 2 % 2 == sum / 2 % 2
+}
+
+impl SharedHandoff {
+    /// The words of a new lock, in which nobody is.
+    pub fn new() -> SharedHandoff {
+        let word = SharedWord::new();
+        let left = word.beside();
+        SharedHandoff { word, left }
+    }
+
+    /// The lock's word.
+    #[inline(always)]
+    pub fn word(&self) -> &SharedWord
+        ensures { result.now ≡ self.now.word }
+    {
+        &self.word
+    }
+
+    /// Leaves rights for other threads, if it can by one step. They come back where another thread has been faster, or
+    /// where there is no room for them, which can't be as long as they can be had.
+    pub fn leave(&self, claim: SharedClaim, share: u64) -> Result<(), SharedClaim>
+        requires name { claim.name ≡ self.now.word }
+        requires held { claim.held ≡ lying share }
+        ensures { IfErr result (λ claim. (claim.name ≡ self.now.word) × (claim.held ≡ lying share)) }
+    {
+        let mut kept = claim;
+        let lies = self.lies();
+        if let Some(to) = lies.checked_add(share)
+            && is_sum(lies, share, to)
+        {
+            if self.left.exchange(&mut kept, lies, to) == lies {
+                kept.end();
+                return Ok(());
+            }
+        }
+        Err(kept)
+    }
+
+    /// Takes rights that were left, if they lie there and it can by one step.
+    pub fn take(&self, share: u64) -> Option<SharedClaim>
+        ensures { IfSome result (λ claim. (claim.name ≡ self.now.word) × (claim.held ≡ lying share)) }
+    {
+        let mut claim = self.word.no_claim();
+        let lies = self.lies();
+        if let Some(to) = lies.checked_sub(share)
+            && is_sum(to, share, lies)
+        {
+            if self.left.exchange(&mut claim, lies, to) == lies {
+                return Some(claim);
+            }
+        }
+        claim.end();
+        None
+    }
+
+    /// The number of what lies there.
+    fn lies(&self) -> u64 {
+        let mut claim = self.word.no_claim();
+        let lies = self.left.look(&mut claim);
+        claim.end();
+        lies
+    }
+}
