@@ -1,5 +1,5 @@
 -- How rights to a reader-writer lock move between a word and a claim: by what a step does to the number. Assumes `Logic`.
-use Rattle.std.proofs.Common.{◌≡◌, ◌≢◌, ◌⊎◌, ℕ, zero, suc, ◌+◌, ◌<◌, eqb, Bool, true, cond, [], ◌∷◌, refl, sym, subst, arith}
+use Rattle.std.proofs.Common.{◌≡◌, ◌≢◌, ◌⊎◌, ℕ, zero, suc, ◌+◌, ◌%◌, ◌^◌, ◌<◌, eqb, Bool, true, cond, [], ◌∷◌, refl, sym, subst, arith}
 use Rattle.std.proofs.Common.{eq-eqb, ne_eqb}
 use mathlib.Core.Logic.{dite, inl, inr}
 use native.Mathlib.Decide.{ℕ_discrete, dec_lt}
@@ -217,10 +217,18 @@ module _ {M : Type 1} {𝓤 : Ura M} (𝓛 : Logic 𝓤) (name : ℕ) where
     pub looks : A.inv (fbor κ (word_at name kind b o)) ∗ A.lft κ q ∗ ⟦ Claimed had ⟧ ⊢ asks 𝓛 (block_ptr b (o + 0))
         (λ n. n) always (λ n. fsep (flft κ q) (Then kind had n (then_has kind had n n)))
     looks = under 𝓛 (kept name kind) b o κ q (λ n. n) (λ n. Then kind had n (then_has kind had n n)) (Claimed had)
-        (λ n. steps kind had n n (may_look kind had n))
+        (λ n _. steps kind had n n (may_look kind had n))
 
     pub exchanges : (from to : ℕ) → May kind had from to
         → A.inv (fbor κ (word_at name kind b o)) ∗ A.lft κ q ∗ ⟦ Claimed had ⟧ ⊢ asks 𝓛 (block_ptr b (o + 0))
         (λ n. either (eqb n from) to n) always (λ n. fsep (flft κ q) (Then kind had n (has_then kind had from to n)))
     exchanges from to may = under 𝓛 (kept name kind) b o κ q (λ n. either (eqb n from) to n)
-        (λ n. Then kind had n (has_then kind had from to n)) (Claimed had) (swaps kind had from to may)
+        (λ n. Then kind had n (has_then kind had from to n)) (Claimed had)
+        (λ n _. swaps kind had from to may n)
+
+    pub adds : (by : ℕ) → ((n : ℕ) → n < 2 ^ 64 → May kind had n ((n + by) % 2 ^ 64))
+        → A.inv (fbor κ (word_at name kind b o)) ∗ A.lft κ q ∗ ⟦ Claimed had ⟧ ⊢ asks 𝓛 (block_ptr b (o + 0))
+        (λ n. (n + by) % 2 ^ 64) always (λ n. fsep (flft κ q) (Then kind had n (then_has kind had n ((n + by) % 2 ^ 64))))
+    adds by may = under 𝓛 (kept name kind) b o κ q (λ n. (n + by) % 2 ^ 64)
+        (λ n. Then kind had n (then_has kind had n ((n + by) % 2 ^ 64))) (Claimed had)
+        (λ n fits. steps kind had n ((n + by) % 2 ^ 64) (may n fits))

@@ -1,15 +1,16 @@
 -- A word in place beside which ghost state lies, by its number: who has a `&` to it may change it in single steps, each of
 -- which leaves beside the new number what belongs there. Assumes `Logic`.
-use Rattle.std.proofs.Common.{ℕ, zero, ◌+◌, List, [], ◌∷◌}
+use Rattle.std.proofs.Common.{ℕ, zero, ◌+◌, ◌^◌, ◌<◌, T, List, [], ◌∷◌, w64}
 use seplogic.Ra.Ura.{Ura}
-use mir.Val.{Val}
+use mir.Syntax.{ty_int}
+use mir.Val.{Val, vint, has_ty, WT}
 use base.Fraction.{full_share}
 use base.Logic.{SProp, ent, sep, wand, ex, id⊢, all_e, apply∗, upd_i}
 use base.Fml.{Lft, Share, Fml, ftrue, fsep, fseps, fex, fwand, fupd, fdead, fbor, flft, finv, Incl-refl}
 use base.Before.{before}
 use types.Logic.{Logic, sem}
 use types.Kit.{‵, raw, ◌⊛◌, some, later, ◌$◌, ◌∵◌, !, qed, by, move, keep, drop, split, fsplit, fsplit3, fjoin, fpick}
-use types.Kit.{fpack, pick, show, frame, each, assume, suffices, use0, use1, use2, updating, await, now, done}
+use types.Kit.{given, learn, fpack, pick, show, frame, each, assume, suffices, use0, use1, use2, updating, await, now, done}
 use types.Tokens.{bor_open, obor_alter}
 use types.Na.{before-Incl}
 use denote.RattleType.{RattleType, Denots}
@@ -101,15 +102,16 @@ module _ {M : Type 1} {𝓤 : Ura M} (𝓛 : Logic 𝓤) (kept : ℕ → Fml) (b
       fpack ! Lft (λ s. fsep (before κ s) (finv (fbor s Inv))) κ $ now ! $ keep ! (0 ∷ 2 ∷ []) $ done !)
 
   -- one step on the word, under its invariant
-  pub under : (f : ℕ → ℕ) (after : ℕ → Fml) (K : Fml) → ((n : ℕ)
+  pub under : (f : ℕ → ℕ) (after : ℕ → Fml) (K : Fml) → ((n : ℕ) → n < 2 ^ 64
       → ent 𝓤 (sep 𝓤 ⟦ kept n ⟧ ⟦ K ⟧) (sep 𝓤 ⟦ kept (f n) ⟧ ⟦ after n ⟧))
       → ent 𝓤 (sep 𝓤 (A.inv (fbor κ Inv)) (sep 𝓤 (A.lft κ q) ⟦ K ⟧)) (asks 𝓛 (block_ptr b (o + 0)) f always
       (λ n. fsep (flft κ q) (after n)))
   under f after K law = let e : ℕ = o + 0 in let There : ℕ → SProp 𝓤 = Lies 𝓛 κ q Inv b e f always after in
       borrowed 𝓛 κ q Inv b e f always after ⟦ K ⟧ (
-      qed 𝓛 (‵ Inv ∷ ‵ K ∷ []) ∵ suffices ! _ (upd_i 𝓤 (ex 𝓤 There)) $ fpick ! (λ n. fsplit ! $ show ! There n $
-      frame ! $
+      qed 𝓛 (‵ Inv ∷ ‵ K ∷ []) ∵ suffices ! _ (upd_i 𝓤 (ex 𝓤 There)) $ fpick ! (λ n. fsplit ! $
+      use1 𝓛 (given (T (has_ty (ty_int w64) (vint w64 n)) × WT (vint w64 n)) (‵ (word b e n)))
+      (𝓛.laws.at_wt full_share (ty_int w64) b e (vint w64 n)) $ learn ! (λ fits. show ! There n $ frame ! $
       each ! (λ (_ : Unit {0}). Again 𝓛 κ q Inv b e f always after n) (λ _. assume ! (‵ (word b e (f n))) $
       suffices ! _ (upd_i 𝓤 (sep 𝓤 ⟦ Inv ⟧ ⟦ after n ⟧)) $ move ! (1 ∷ 2 ∷ []) $
-      use2 𝓛 (‵ (kept (f n)) ⊛ ‵ (after n)) (law n) $ split ! $ move ! (2 ∷ 0 ∷ []) $ fjoin ! $
-      fpack ! ℕ (λ m. fsep (word b e m) (kept m)) (f n) $ done !)))
+      use2 𝓛 (‵ (kept (f n)) ⊛ ‵ (after n)) (law n fits.1.fits) $ split ! $ move ! (2 ∷ 0 ∷ []) $ fjoin ! $
+      fpack ! ℕ (λ m. fsep (word b e m) (kept m)) (f n) $ done !))))

@@ -1,5 +1,5 @@
 //! A word with rights to a reader-writer lock.
-ghost use Rattle.std.specs.Prelude.{◌≡◌, ◌≢◌, ℕ};
+ghost use Rattle.std.specs.Prelude.{◌≡◌, ◌≢◌, ◌+◌, ◌%◌, ◌^◌, ◌<◌, ℕ};
 ghost use Rattle.lock_word.specs.Rights.{nothing};
 ghost use Rattle.lock_word.specs.Sharing.{word_owns, word_shares, May, Finds, then_has};
 
@@ -67,6 +67,16 @@ impl RightsWord {
             × (result ≢ from → claim.new.held ≡ claim.old.held) }
     {
         unsafe { exchange::<Brand>(&raw const self.word, from, to) }
+    }
+
+    /// Adds to the word, modulo 2^64, and answers the word as it was. Rights come and go with its number.
+    pub(crate) fn add(&self, claim: &mut SharedClaim, by: u64) -> u64
+        requires { (claim.old.name ≡ self.now.0)
+            × ((word : ℕ) → word < 2 ^ 64 → May self.now.1 claim.old.held word ((word + by) % 2 ^ 64)) }
+        ensures { (claim.new.name ≡ self.now.0) × Finds self.now.1 claim.old.held result
+            × (claim.new.held ≡ then_has self.now.1 claim.old.held result ((result + by) % 2 ^ 64)) }
+    {
+        unsafe { raw::fetch_add::<Brand>(&raw const self.word, by, SeqCst) }
     }
 }
 
