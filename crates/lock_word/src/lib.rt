@@ -32,6 +32,6 @@ pub use handoff::HandoffWord;
 pub use lock_word::LockWord;
 pub use owner::Owner;
 pub use shared_claim::SharedClaim;
-pub use shared_handoff::SharedHandoff;
+pub use shared_handoff::{EXCLUSIVE, PENDING, READER, SharedHandoff, UPGRADABLE};
 pub use shared_rights::{Exclusive, Pending, Reader, Upgradable};
 pub use shared_word::SharedWord;

@@ -5,7 +5,20 @@ ghost use Rattle.lock_word.specs.Sharing.{lying};
 
 use crate::rights_word::RightsWord;
 use crate::shared_claim::SharedClaim;
+use crate::shared_rights::{Exclusive, Pending, Reader, Upgradable};
 use crate::shared_word::SharedWord;
+
+/// The number of a reader's share.
+pub const READER: u64 = 16;
+
+/// That of the right of an upgradable owner, who has a reader's share as well.
+pub const UPGRADABLE: u64 = 4;
+
+/// That of the right of a writer that may still find readers inside.
+pub const PENDING: u64 = 8;
+
+/// That of the right of a writer that has seen that there are none.
+pub const EXCLUSIVE: u64 = 2;
 
 /// The word of a reader-writer lock, and a second word of it in which rights are left for other threads.
 ///
@@ -80,6 +93,46 @@ impl SharedHandoff {
         }
         claim.end();
         None
+    }
+
+    /// Takes a reader's share.
+    pub fn take_reader(&self) -> Option<Reader>
+        ensures { IfSome result (λ reader. reader ≡ self.now.word) }
+    {
+        match self.take(READER) {
+            Some(claim) => Some(claim.into_reader()),
+            None => None,
+        }
+    }
+
+    /// Takes the rights of an upgradable owner.
+    pub fn take_upgradable(&self) -> Option<Upgradable>
+        ensures { IfSome result (λ owner. owner ≡ self.now.word) }
+    {
+        match self.take(READER + UPGRADABLE) {
+            Some(claim) => Some(claim.into_upgradable()),
+            None => None,
+        }
+    }
+
+    /// Takes the right of a writer that waits for readers to leave.
+    pub fn take_pending(&self) -> Option<Pending>
+        ensures { IfSome result (λ owner. owner ≡ self.now.word) }
+    {
+        match self.take(PENDING) {
+            Some(claim) => Some(claim.into_pending()),
+            None => None,
+        }
+    }
+
+    /// Takes the right of a writer.
+    pub fn take_exclusive(&self) -> Option<Exclusive>
+        ensures { IfSome result (λ owner. owner ≡ self.now.word) }
+    {
+        match self.take(EXCLUSIVE) {
+            Some(claim) => Some(claim.into_exclusive()),
+            None => None,
+        }
     }
 
     /// The number of what lies there.

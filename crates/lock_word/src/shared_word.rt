@@ -1,5 +1,5 @@
 //! The word of a reader-writer lock.
-ghost use Rattle.std.specs.Prelude.{◌≡◌, ◌≢◌, ℕ};
+ghost use Rattle.std.specs.Prelude.{◌≡◌, ◌≢◌, ◌+◌, ◌/◌, ◌%◌, ◌^◌, ◌<◌, ℕ, IfNone, IfSome, IfErr};
 ghost use Rattle.lock_word.specs.Rights.{nothing};
 ghost use Rattle.lock_word.specs.Sharing.{MayFind, MayExchange, then_held};
 
@@ -80,5 +80,49 @@ impl SharedWord {
         ensures lost { result ≢ from → claim.new.held ≡ claim.old.held }
     {
         self.word.exchange(claim, from, to)
+    }
+
+    /// Adds to the word, modulo 2^64, and answers the word as it was. Rights come and go with its number.
+    #[inline(always)]
+    pub fn add(&self, claim: &mut SharedClaim, by: u64) -> u64
+        requires name { claim.old.name ≡ self.now }
+        requires may { (word : ℕ) → word < 2 ^ 64 → MayExchange claim.old.held word ((word + by) % 2 ^ 64) }
+        ensures name { claim.new.name ≡ self.now }
+        ensures found { MayFind claim.old.held result }
+        ensures held { claim.new.held ≡ then_held claim.old.held result ((result + by) % 2 ^ 64) }
+    {
+        self.word.add(claim, by)
+    }
+
+    /// Adds to the word, if the sum is none too large and nobody is faster, and answers the word as it was.
+    ///
+    /// An addition that lets readers in may find as many as can be counted. So it waits for room: the caller looks again.
+    pub fn try_add(&self, claim: &mut SharedClaim, by: u64) -> Option<u64>
+        requires name { claim.old.name ≡ self.now }
+        requires may { (word : ℕ) → word + by < 2 ^ 64 → MayExchange claim.old.held word (word + by) }
+        ensures name { claim.new.name ≡ self.now }
+        ensures added { IfSome result (λ word. claim.new.held ≡ then_held claim.old.held word (word + by)) }
+        ensures not_added { IfNone result (claim.new.held ≡ claim.old.held) }
+    {
+        let word = self.load();
+        let to = word.checked_add(by)?;
+        if self.exchange(claim, word, to) == word {
+            Some(word)
+        } else {
+            None
+        }
+    }
+
+    /// Makes an exchange that changes nothing but bits 0 and 1, for which nobody needs a right. Where the word isn't
+    /// `from` it answers the word.
+    #[inline(always)]
+    pub fn change(&self, from: u64, to: u64) -> Result<(), u64>
+        requires { from / 4 ≡ to / 4 }
+        ensures { IfErr result (λ word. word ≢ from) }
+    {
+        let mut claim = self.no_claim();
+        let word = self.exchange(&mut claim, from, to);
+        claim.end();
+        if word == from { Ok(()) } else { Err(word) }
     }
 }
