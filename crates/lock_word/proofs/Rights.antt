@@ -3,16 +3,15 @@ use Rattle.std.proofs.Common.{◌≡◌, ◌≢◌, ℕ, ◌+◌, ◌%◌, eqb, 
 use mathlib.Core.Logic.{dite}
 use native.Mathlib.Decide.{ℕ_discrete}
 use seplogic.Ra.Ura.{Ura}
-use base.Logic.{SProp, ent, sep, ex, emp, all_e, upd, upd_i, via}
+use base.Logic.{SProp, ent, sep, emp, all_e, upd, id⊢}
 use base.Fml.{Lft, Share, Fml, ftrue, fsep, fbor, flft}
 use prog.Atomic.{either}
 use types.Logic.{Logic, sem}
-use types.Kit.{‵, ◌⊛◌, ◌$◌, ◌∵◌, !, qed, by, move, keep, drop, split, fsplit, fjoin, fpick, fpack, show, frame, each}
-use types.Kit.{assume, suffices, use0, use1, use2, done}
+use types.Kit.{‵, ◌$◌, ◌∵◌, !, qed, by, move, keep, drop, each, use0, use1, done}
 use types.Na.{out, out_once}
 use denote.RawPtr.{block_ptr}
-use Rattle.core.specs.Sync.RawAtomic.{asks, always, word}
-use Rattle.core.proofs.raw_atomic.Asked.{borrowed, Lies, Again}
+use Rattle.core.specs.Sync.RawAtomic.{asks, always}
+use Rattle.lock_word.proofs.Words.{under}
 use Rattle.lock_word.specs.Owning.{MayExchange, then_owned, right_if, kept, claimed, word_at}
 
 module _ {M : Type 1} {𝓤 : Ura M} (𝓛 : Logic 𝓤) (name : ℕ) where
@@ -98,32 +97,13 @@ module _ {M : Type 1} {𝓤 : Ura M} (𝓛 : Logic 𝓤) (name : ℕ) where
 
   -- one step on the word, under its invariant
   module _ (κ : Lft) (q : Share) (b o : ℕ) where
-    abbrev Inv : Fml
-    Inv = word_at name b o
-
-    abbrev e : ℕ
-    e = o + 0
-
-    under : (f : ℕ → ℕ) (after : ℕ → Fml) (K : Fml) → ((n : ℕ)
-        → ent 𝓤 (sep 𝓤 ⟦ kept name n ⟧ ⟦ K ⟧) (sep 𝓤 ⟦ kept name (f n) ⟧ ⟦ after n ⟧))
-        → ent 𝓤 (sep 𝓤 (A.inv (fbor κ Inv)) (sep 𝓤 (A.lft κ q) ⟦ K ⟧)) (asks 𝓛 (block_ptr b e) f always
-        (λ n. fsep (flft κ q) (after n)))
-    under f after K law = let There : ℕ → SProp 𝓤 = Lies 𝓛 κ q Inv b e f always after in
-        borrowed 𝓛 κ q Inv b e f always after ⟦ K ⟧ (
-        qed 𝓛 (‵ Inv ∷ ‵ K ∷ []) ∵ suffices ! _ (upd_i 𝓤 (ex 𝓤 There)) $ fpick ! (λ n. fsplit ! $ show ! There n $
-        frame ! $
-        each ! (λ (_ : Unit {0}). Again 𝓛 κ q Inv b e f always after n) (λ _. assume ! (‵ (word b e (f n))) $
-        suffices ! _ (upd_i 𝓤 (sep 𝓤 ⟦ Inv ⟧ ⟦ after n ⟧)) $ move ! (1 ∷ 2 ∷ []) $
-        use2 𝓛 (‵ (kept name (f n)) ⊛ ‵ (after n)) (law n) $ split ! $ move ! (2 ∷ 0 ∷ []) $ fjoin ! $
-        fpack ! ℕ (λ m. fsep (word b e m) (kept name m)) (f n) $ done !)))
-
-    pub looks : ent 𝓤 (sep 𝓤 (A.inv (fbor κ Inv)) (sep 𝓤 (A.lft κ q) ⟦ ftrue ⟧)) (asks 𝓛 (block_ptr b e)
-        (λ n. n) always (λ n. fsep (flft κ q) ftrue))
-    looks = under (λ n. n) (λ _. ftrue) ftrue (λ n. base.Logic.id⊢ 𝓤 _)
+    pub looks : ent 𝓤 (sep 𝓤 (A.inv (fbor κ (word_at name b o))) (sep 𝓤 (A.lft κ q) ⟦ ftrue ⟧))
+        (asks 𝓛 (block_ptr b (o + 0)) (λ n. n) always (λ n. fsep (flft κ q) ftrue))
+    looks = under 𝓛 (kept name) b o κ q (λ n. n) (λ _. ftrue) ftrue (λ n _. id⊢ 𝓤 _)
 
     pub exchanges : (owned from to : ℕ) (may : MayExchange owned from to)
-        → ent 𝓤 (sep 𝓤 (A.inv (fbor κ Inv)) (sep 𝓤 (A.lft κ q) ⟦ claimed name owned ⟧)) (asks 𝓛 (block_ptr b e)
-        (λ n. either (eqb n from) to n) always (λ n. fsep (flft κ q) (claimed name
-        (owned_then owned from to may n))))
-    exchanges owned from to may = under (λ n. either (eqb n from) to n)
-        (λ n. claimed name (owned_then owned from to may n)) (claimed name owned) (steps owned from to may)
+        → ent 𝓤 (sep 𝓤 (A.inv (fbor κ (word_at name b o))) (sep 𝓤 (A.lft κ q) ⟦ claimed name owned ⟧))
+        (asks 𝓛 (block_ptr b (o + 0)) (λ n. either (eqb n from) to n) always
+        (λ n. fsep (flft κ q) (claimed name (owned_then owned from to may n))))
+    exchanges owned from to may = under 𝓛 (kept name) b o κ q (λ n. either (eqb n from) to n)
+        (λ n. claimed name (owned_then owned from to may n)) (claimed name owned) (λ n _. steps owned from to may n)

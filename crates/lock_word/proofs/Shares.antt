@@ -13,8 +13,8 @@ use types.Kit.{‵, ◌⊛◌, some, given, ◌$◌, ◌∵◌, !, qed, by, move
 use types.Kit.{learn, show, check, each, use0, use1, use2, rewrite, done}
 use types.Owned.{own_glued}
 use denote.Steps.{nothing}
-use Rattle.lock_word.specs.Rights.{Rights, amount, plus, Adds, IsPossible, rights, graph, same, one_sum, fewer}
-use Rattle.lock_word.specs.Rights.{Part, swapped}
+use Rattle.lock_word.specs.Rights.{Rights, amount, plus, Adds, IsPossible}
+use Rattle.lock_word.specs.RightsState.{Part, rights, graph, summed, same, one_sum, swapped, fewer}
 use Rattle.lock_word.specs.Sharing.{Says, MayFind, MayExchange, then_held, lying, MayLay, then_left, fact, has, rest}
 use Rattle.lock_word.specs.Sharing.{claimed, kept, word_at, May, Finds, then_has}
 use Rattle.lock_word.specs.Rights.{nothing as none, IsClash}
@@ -23,17 +23,13 @@ use Rattle.core.specs.Sync.RawAtomic.{asks, always}
 use prog.Atomic.{either}
 use denote.RawPtr.{block_ptr}
 
--- What the numbers say: beside `other`, which others have, `had` is what the old one says, and `has` what the new one does.
-abbrev Fit : Rights → Rights → ℕ → ℕ → Type 0
-Fit had has from to = (other all : Rights) → Adds had other all → Says from all × IsPossible all
-    → MayFind had from × Says to (plus has other) × IsPossible (plus has other)
-
-exchange_fits : (had : Rights) (from to : ℕ) → MayExchange had from to → Fit had (then_held had from to) from to
-exchange_fits had from to may other all adds says = let find : MayFind had from = grind arith in
-    let covers = may find in grind arith
-
-look_fits : (had : Rights) (n : ℕ) → Fit had had n n
-look_fits had n other all adds says = grind arith
+-- What the numbers say where the claim has `had` and others have `other`: what the claim has then, and others have, is what
+-- the new number says, and goes together.
+fits : (had other all : Rights) (from to : ℕ) → MayExchange had from to → Adds had other all
+    → Says from all × IsPossible all → MayFind had from × Says to (plus (then_held had from to) other)
+    × IsPossible (plus (then_held had from to) other)
+fits had other all from to may adds says = let find : MayFind had from = grind arith in let covers = may find in
+    grind arith
 
 module _ {M : Type 1} {𝓤 : Ura M} (𝓛 : Logic 𝓤) (name : ℕ) where
   open 𝓛 use {A}
@@ -136,13 +132,14 @@ module _ {M : Type 1} {𝓤 : Ura M} (𝓛 : Logic 𝓤) (name : ℕ) where
   abbrev pub Then : ℕ → Rights → ℕ → Rights → Fml
   Then kind had n has = fsep (fact (Finds kind had n)) (Claimed has)
 
-  at_lock : (had has : Rights) (from to : ℕ) → Fit had has from to → ⟦ kept name 0 from ⟧ ∗ ⟦ Claimed had ⟧
-      ⊢ ⟦ kept name 0 to ⟧ ∗ ⟦ Then 0 had from has ⟧
-  at_lock had has from to fit = let Kept : Rights → Fml = λ all. fsep (fact (Says to all × IsPossible all)) (Rest all) in
+  at_lock : (had : Rights) (from to : ℕ) → MayExchange had from to → ⟦ kept name 0 from ⟧ ∗ ⟦ Claimed had ⟧
+      ⊢ ⟦ kept name 0 to ⟧ ∗ ⟦ Then 0 had from (then_held had from to) ⟧
+  at_lock had from to may = let Kept : Rights → Fml = λ all. fsep (fact (Says to all × IsPossible all)) (Rest all) in
+      let has = then_held had from to in
       qed 𝓛 (‵ (kept name 0 from) ∷ ‵ (Claimed had) ∷ []) ∵ fpick ! (λ all. fsplit ! $ fpick ! (λ says. drop ! $
       use2 𝓛 (some (λ (other : Rights). given (Adds had other all) (‵ (Rest other)))) (joined had all) $
-      pick ! (λ other. learn ! (λ adds. let new : Rights = plus has other in let so = fit other all adds says in
-      use1 𝓛 (‵ (Rest new) ⊛ ‵ (Claimed has)) (parted has other new (refl, refl, refl, refl) so.2) $ split ! $
+      pick ! (λ other. learn ! (λ adds. let new = plus has other in let so = fits had other all from to may adds says in
+      use1 𝓛 (‵ (Rest new) ⊛ ‵ (Claimed has)) (parted has other new (summed has other) so.2) $ split ! $
       nothing ! $ fpack ! (Says to new × IsPossible new) (λ _. ftrue) (so.1, so.2) $ fjoin ! $ fpack ! Rights Kept new $
       move ! (1 ∷ []) $ nothing ! $ fpack ! (MayFind had from) (λ _. ftrue) so.0 $ fjoin ! $ move ! (1 ∷ 0 ∷ []) $
       done !))))
@@ -151,26 +148,20 @@ module _ {M : Type 1} {𝓤 : Ura M} (𝓛 : Logic 𝓤) (name : ℕ) where
       ⊢ ⟦ kept name 1 to ⟧ ∗ ⟦ Then 1 had from (then_left had from to) ⟧
   beside_it had from to may = let all : Rights = plus (lying from) had in let left = then_left had from to in
       qed 𝓛 (‵ (Claimed (lying from)) ∷ ‵ (Claimed had) ∷ []) ∵
-      use2 𝓛 (‵ (Claimed all)) (both (lying from) had all (refl, refl, refl, refl)) $
+      use2 𝓛 (‵ (Claimed all)) (both (lying from) had all (summed (lying from) had)) $
       use1 𝓛 (‵ (Claimed (lying to)) ⊛ ‵ (Claimed left)) (shared_out (lying to) left all (grind arith)) $ split ! $
       move ! (1 ∷ []) $ nothing ! $ fpack ! (Unit {0}) (λ _. ftrue) tt $ fjoin ! $ move ! (1 ∷ 0 ∷ []) $ done !
 
   -- one law for all steps: whoever may change the number has then what the numbers say
   pub steps : (kind : ℕ) (had : Rights) (from to : ℕ) → May kind had from to → ⟦ kept name kind from ⟧ ∗ ⟦ Claimed had ⟧
       ⊢ ⟦ kept name kind to ⟧ ∗ ⟦ Then kind had from (then_has kind had from to) ⟧
-  steps zero had from to may = at_lock had (then_held had from to) from to (exchange_fits had from to may)
+  steps zero had from to may = at_lock had from to may
   steps (suc k) had from to may = beside_it had from to may
 
-  -- a look may always be made, and a step that is not made changes nothing
+  -- a look may always be made
   may_look : (kind : ℕ) (had : Rights) (n : ℕ) → May kind had n n
   may_look zero had n = λ find. grind arith
   may_look (suc k) had n = grind arith
-
-  stays : (kind : ℕ) (had : Rights) (n : ℕ) → ⟦ kept name kind n ⟧ ∗ ⟦ Claimed had ⟧
-      ⊢ ⟦ kept name kind n ⟧ ∗ ⟦ Then kind had n had ⟧
-  stays zero had n = at_lock had had n n (look_fits had n)
-  stays (suc k) had n = qed 𝓛 (‵ (kept name 1 n) ∷ ‵ (Claimed had) ∷ []) ∵ move ! (1 ∷ []) $
-      nothing ! $ fpack ! (Unit {0}) (λ _. ftrue) tt $ fjoin ! $ move ! (1 ∷ 0 ∷ []) $ done !
 
   -- nobody is in a new lock
   pub begins : ⟦ Rest none ⟧ ⊢ ⟦ kept name 0 0 ⟧
@@ -186,7 +177,7 @@ module _ {M : Type 1} {𝓤 : Ura M} (𝓛 : Logic 𝓤) (name : ℕ) where
     where
       glued : (x : Part) → x ∈ rights.op (inr a) (inr b) → ⟦ fown rights name x ⟧ ⊢ X
       glued (inr c) m = let sum = sum_out graph (inr a) (inr b) (inr c) m in
-          absurd (clash.2 (subst IsPossible (one_sum a b c (plus a b) sum.0 (refl, refl, refl, refl)) sum.1))
+          absurd (clash.2 (subst IsPossible (one_sum a b c (plus a b) sum.0 (summed a b)) sum.1))
       glued (inl c) m = absurd (sum_out graph (inr a) (inr b) (inl c) m)
 
   -- A STEP ON THE WORD
@@ -194,24 +185,26 @@ module _ {M : Type 1} {𝓤 : Ura M} (𝓛 : Logic 𝓤) (name : ℕ) where
   module _ (kind : ℕ) (had : Rights) (from to : ℕ) where
     -- what the claim has where an exchange found n
     abbrev pub has_then : ℕ → Rights
-    has_then n = cond (eqb n from) (then_has kind had from to) had
+    has_then n = cond (eqb n from) (then_has kind had from to) (then_has kind had n n)
 
     pub won : (n : ℕ) → n ≡ from → has_then n ≡ then_has kind had from to
-    won n hit = subst (λ (y : Bool). cond y (then_has kind had from to) had ≡ then_has kind had from to)
-        (sym (eq-eqb n from hit)) refl
+    won n hit = subst (λ (y : Bool). cond y (then_has kind had from to) (then_has kind had n n)
+        ≡ then_has kind had from to) (sym (eq-eqb n from hit)) refl
 
-    pub lost : (n : ℕ) → n ≢ from → has_then n ≡ had
-    lost n miss = subst (λ (y : Bool). cond y (then_has kind had from to) had ≡ had) (sym (ne_eqb n from miss)) refl
+    pub lost : (n : ℕ) → n ≢ from → has_then n ≡ then_has kind had n n
+    lost n miss = subst (λ (y : Bool). cond y (then_has kind had from to) (then_has kind had n n)
+        ≡ then_has kind had n n) (sym (ne_eqb n from miss)) refl
 
-    -- an exchange is made where it finds what it was to find
+    -- an exchange is made where it finds what it was to find, and else it is a look
     swaps : May kind had from to → (n : ℕ) → ⟦ kept name kind n ⟧ ∗ ⟦ Claimed had ⟧
         ⊢ ⟦ kept name kind (either (eqb n from) to n) ⟧ ∗ ⟦ Then kind had n (has_then n) ⟧
     swaps may n = let Goes : ℕ → Bool → Type 1 = λ k y. ⟦ kept name kind k ⟧ ∗ ⟦ Claimed had ⟧
-        ⊢ ⟦ kept name kind (either y to k) ⟧ ∗ ⟦ Then kind had k (cond y (then_has kind had from to) had) ⟧ in
+        ⊢ ⟦ kept name kind (either y to k) ⟧ ∗ ⟦ Then kind had k (cond y (then_has kind had from to) (then_has kind had k k)) ⟧ in
         dite (ℕ_discrete n from)
         (λ hit. subst (Goes n) (sym (eq-eqb n from hit)) (subst (λ (k : ℕ). Goes k true) (sym hit)
         (steps kind had from to may)))
-        (λ miss. subst (Goes n) (sym (ne_eqb n from miss)) (stays kind had n))
+        (λ miss. subst (Goes n) (sym (ne_eqb n from miss))
+        (steps kind had n n (may_look kind had n)))
 
   module _ (kind : ℕ) (κ : Lft) (q : Share) (b o : ℕ) (had : Rights) where
     pub looks : A.inv (fbor κ (word_at name kind b o)) ∗ A.lft κ q ∗ ⟦ Claimed had ⟧ ⊢ asks 𝓛 (block_ptr b (o + 0))

@@ -6,7 +6,8 @@ use base.Fml.{Lft, Fml, ftrue, ffalse, fsep, fex, fall, fbor, fown}
 use denote.RawPtr.{Ptr, block_ptr, null_ptr}
 use denote.Sharing.{said, beside, some, ends, always}
 use Rattle.core.specs.Sync.RawAtomic.{word}
-use Rattle.lock_word.specs.Rights.{Rights, amount, IsPossible, rights}
+use Rattle.lock_word.specs.Rights.{Rights, amount, IsPossible}
+use Rattle.lock_word.specs.RightsState.{rights}
 
 -- THE NUMBERS
 
@@ -60,6 +61,11 @@ then_held had from to = seen_by (record {
   pending = (had.pending + had.exclusive + writer_in to) - writer_in from;
   exclusive = 0;
 }) to
+
+-- One has as good as these: where they are a pending writer's, an exclusive owner's will do.
+abbrev pub Serves : Rights → Rights → Type 0
+Serves had wanted = (had.readers ≡ wanted.readers) × (had.upgradable ≡ wanted.upgradable)
+    × (had.pending + had.exclusive ≡ wanted.pending + wanted.exclusive) × (wanted.exclusive ≤ had.exclusive)
 
 -- what lies with a word beside that of the lock
 abbrev pub lying : ℕ → Rights

@@ -15,6 +15,9 @@
 //!
 //! An owner hands the lock over with bit 0 set throughout: it leaves the right with a second word of the lock, where
 //! the other picks it up ([`HandoffWord`]).
+//!
+//! The word of a reader-writer lock says by its number which rights are had: those of readers, of an upgradable owner
+//! and of a writer ([`SharedWord`], [`SharedClaim`], [`SharedHandoff`]).
 #![tactic(auto)]
 
 mod claim;

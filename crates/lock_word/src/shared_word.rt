@@ -1,7 +1,7 @@
 //! The word of a reader-writer lock.
 ghost use Rattle.std.specs.Prelude.{◌≡◌, ◌≢◌, ◌+◌, ◌/◌, ◌%◌, ◌^◌, ◌<◌, ℕ, IfNone, IfSome, IfErr};
 ghost use Rattle.lock_word.specs.Rights.{nothing};
-ghost use Rattle.lock_word.specs.Sharing.{MayFind, MayExchange, then_held};
+ghost use Rattle.lock_word.specs.Sharing.{MayFind, MayExchange, then_held, Serves};
 
 use crate::rights_word::RightsWord;
 use crate::shared_claim::SharedClaim;
@@ -69,7 +69,7 @@ impl SharedWord {
         self.word.look(claim)
     }
 
-    /// Writes `to` if the word is `from`, and answers the word as it was. Rights come and go with its number.
+    /// Writes `to` if the word is `from`, and else looks; answers the word as it was. Rights come and go with its number.
     #[inline(always)]
     pub fn exchange(&self, claim: &mut SharedClaim, from: u64, to: u64) -> u64
         requires name { claim.old.name ≡ self.now }
@@ -77,7 +77,7 @@ impl SharedWord {
         ensures name { claim.new.name ≡ self.now }
         ensures found { MayFind claim.old.held result }
         ensures won { result ≡ from → claim.new.held ≡ then_held claim.old.held from to }
-        ensures lost { result ≢ from → claim.new.held ≡ claim.old.held }
+        ensures lost { result ≢ from → claim.new.held ≡ then_held claim.old.held result result }
     {
         self.word.exchange(claim, from, to)
     }
@@ -102,7 +102,7 @@ impl SharedWord {
         requires may { (word : ℕ) → word + by < 2 ^ 64 → MayExchange claim.old.held word (word + by) }
         ensures name { claim.new.name ≡ self.now }
         ensures added { IfSome result (λ word. claim.new.held ≡ then_held claim.old.held word (word + by)) }
-        ensures not_added { IfNone result (claim.new.held ≡ claim.old.held) }
+        ensures not_added { IfNone result (Serves claim.new.held claim.old.held) }
     {
         let word = self.load();
         let to = word.checked_add(by)?;

@@ -1,5 +1,4 @@
 -- A `&` to a word is made of a borrow of it: the borrow goes into an invariant, with what lies with the word.
-use Rattle.std.proofs.Common.{ℕ}
 use base.Fraction.{full_share}
 use base.Fml.{Lft, Fml, fbor}
 use denote.Memory.{part_of, part_at}

@@ -8,7 +8,8 @@ use Rattle.atomic_table.proofs.Names.{tables, owns, types_at, nothing, alive, St
 use Rattle.atomic_table.proofs.Walks.{proved, leaves}
 use mathlib.Core.Logic.{inl}
 use types.Owned.{basic, own_new}
-use Rattle.lock_word.specs.Rights.{nothing as none, rights}
+use Rattle.lock_word.specs.Rights.{nothing as none}
+use Rattle.lock_word.specs.RightsState.{rights}
 use Rattle.lock_word.specs.Sharing.{rest, kept}
 use Rattle.lock_word.proofs.Shares.{begins}
 use Rattle.lock_word.specs.contracts.rights_word.RightsWord.TheInside as inside
