@@ -1,11 +1,12 @@
--- How rights to a reader-writer lock move between a word and a claim: by what a step does to the number. Assumes `Logic`.
-use Rattle.std.proofs.Common.{◌≡◌, ◌≢◌, ◌⊎◌, ℕ, zero, suc, ◌+◌, ◌%◌, ◌^◌, ◌<◌, eqb, Bool, true, cond, [], ◌∷◌, refl, sym, subst, arith}
-use Rattle.std.proofs.Common.{eq-eqb, ne_eqb}
+-- How rights to a reader-writer lock move between a word and a claim: by what a step does to the number. Assumes
+-- `Logic`.
+use Rattle.std.proofs.Common.{◌≡◌, ◌≢◌, ℕ, zero, suc, ◌+◌, ◌%◌, ◌^◌, ◌<◌, eqb, Bool, true, cond, [], ◌∷◌, refl}
+use Rattle.std.proofs.Common.{sym, subst, arith, eq-eqb, ne_eqb}
 use mathlib.Core.Logic.{dite, inl, inr}
 use native.Mathlib.Decide.{ℕ_discrete, dec_lt}
 use mathlib.Mathlib.Data.Part.{◌∈◌}
 use seplogic.Ra.Ura.{Ura}
-use base.Logic.{SProp, ent, sep, ex, guard, emp, all_e, id⊢}
+use base.Logic.{SProp, ent, sep, ex, guard, emp, all_e}
 use base.Fml.{Lft, Share, Fml, ftrue, fsep, fbor, flft, fown}
 use base.Graph.{sum_in, sum_out}
 use types.Logic.{Logic, sem}
@@ -23,8 +24,8 @@ use Rattle.core.specs.Sync.RawAtomic.{asks, always}
 use prog.Atomic.{either}
 use denote.RawPtr.{block_ptr}
 
--- What the numbers say where the claim has `had` and others have `other`: what the claim has then, and others have, is what
--- the new number says, and goes together.
+-- What the numbers say where the claim has `had` and others have `other`: what the claim has then, and others have, is
+-- what the new number says, and goes together.
 fits : (had other all : Rights) (from to : ℕ) → MayExchange had from to → Adds had other all
     → Says from all × IsPossible all → MayFind had from × Says to (plus (then_held had from to) other)
     × IsPossible (plus (then_held had from to) other)
@@ -48,7 +49,6 @@ module _ {M : Type 1} {𝓤 : Ura M} (𝓛 : Logic 𝓤) (name : ℕ) where
 
   infix 26 ◌⊢◌
   infixr 35 ◌∗◌
-
   abbrev Has : Rights → Fml
   Has = has name
 
@@ -115,8 +115,8 @@ module _ {M : Type 1} {𝓤 : Ura M} (𝓛 : Logic 𝓤) (name : ℕ) where
 
   shared_out : (a b c : Rights) → Adds a b c → ⟦ Claimed c ⟧ ⊢ ⟦ Claimed a ⟧ ∗ ⟦ Claimed b ⟧
   shared_out a b c adds = dite (dec_lt 0 (amount c))
-      (λ some_c. qed 𝓛 (‵ (Claimed c) ∷ []) ∵ use1 𝓛 (‵ (Has c)) (taken c some_c) $ fsplit ! $ fpick ! (λ possible. drop ! $
-      let m = sum_in graph (inr a) (inr b) (inr c) (adds, possible) in
+      (λ some_c. qed 𝓛 (‵ (Claimed c) ∷ []) ∵ use1 𝓛 (‵ (Has c)) (taken c some_c) $ fsplit ! $
+      fpick ! (λ possible. drop ! $ let m = sum_in graph (inr a) (inr b) (inr c) (adds, possible) in
       use1 𝓛 (‵ (fown rights name (inr a)) ⊛ ‵ (fown rights name (inr b)))
       (𝓛.algebras.own_cut rights name (inr a) (inr b) (inr c) m) $ split ! $
       nothing ! $ fpack ! (IsPossible a) (λ _. ftrue) (fewer b a c (swapped a b c adds) possible) $ fjoin ! $
@@ -199,7 +199,8 @@ module _ {M : Type 1} {𝓤 : Ura M} (𝓛 : Logic 𝓤) (name : ℕ) where
     swaps : May kind had from to → (n : ℕ) → ⟦ kept name kind n ⟧ ∗ ⟦ Claimed had ⟧
         ⊢ ⟦ kept name kind (either (eqb n from) to n) ⟧ ∗ ⟦ Then kind had n (has_then n) ⟧
     swaps may n = let Goes : ℕ → Bool → Type 1 = λ k y. ⟦ kept name kind k ⟧ ∗ ⟦ Claimed had ⟧
-        ⊢ ⟦ kept name kind (either y to k) ⟧ ∗ ⟦ Then kind had k (cond y (then_has kind had from to) (then_has kind had k k)) ⟧ in
+        ⊢ ⟦ kept name kind (either y to k) ⟧
+        ∗ ⟦ Then kind had k (cond y (then_has kind had from to) (then_has kind had k k)) ⟧ in
         dite (ℕ_discrete n from)
         (λ hit. subst (Goes n) (sym (eq-eqb n from hit)) (subst (λ (k : ℕ). Goes k true) (sym hit)
         (steps kind had from to may)))
@@ -221,7 +222,8 @@ module _ {M : Type 1} {𝓤 : Ura M} (𝓛 : Logic 𝓤) (name : ℕ) where
 
     pub adds : (by : ℕ) → ((n : ℕ) → n < 2 ^ 64 → May kind had n ((n + by) % 2 ^ 64))
         → A.inv (fbor κ (word_at name kind b o)) ∗ A.lft κ q ∗ ⟦ Claimed had ⟧ ⊢ asks 𝓛 (block_ptr b (o + 0))
-        (λ n. (n + by) % 2 ^ 64) always (λ n. fsep (flft κ q) (Then kind had n (then_has kind had n ((n + by) % 2 ^ 64))))
+        (λ n. (n + by) % 2 ^ 64) always
+        (λ n. fsep (flft κ q) (Then kind had n (then_has kind had n ((n + by) % 2 ^ 64))))
     adds by may = under 𝓛 (kept name kind) b o κ q (λ n. (n + by) % 2 ^ 64)
         (λ n. Then kind had n (then_has kind had n ((n + by) % 2 ^ 64))) (Claimed had)
         (λ n fits. steps kind had n ((n + by) % 2 ^ 64) (may n fits))

@@ -1,5 +1,5 @@
--- A word in place beside which ghost state lies, by its number: who has a `&` to it may change it in single steps, each of
--- which leaves beside the new number what belongs there. Assumes `Logic`.
+-- A word in place beside which ghost state lies, by its number: who has a `&` to it may change it in single steps, each
+-- of which leaves beside the new number what belongs there. Assumes `Logic`.
 use Rattle.std.proofs.Common.{ℕ, zero, ◌+◌, ◌^◌, ◌<◌, T, List, [], ◌∷◌, w64}
 use seplogic.Ra.Ura.{Ura}
 use mir.Syntax.{ty_int}
@@ -10,7 +10,8 @@ use base.Fml.{Lft, Share, Fml, ftrue, fsep, fseps, fex, fwand, fupd, fdead, fbor
 use base.Before.{before}
 use types.Logic.{Logic, sem}
 use types.Kit.{‵, raw, ◌⊛◌, some, later, ◌$◌, ◌∵◌, !, qed, by, move, keep, drop, split, fsplit, fsplit3, fjoin, fpick}
-use types.Kit.{given, learn, fpack, pick, show, frame, each, assume, suffices, use0, use1, use2, updating, await, now, done}
+use types.Kit.{given, learn, fpack, pick, show, frame, each, assume, suffices, use0, use1, use2, updating, await, now}
+use types.Kit.{done}
 use types.Tokens.{bor_open, obor_alter}
 use types.Na.{before-Incl}
 use denote.RattleType.{RattleType, Denots}
@@ -40,7 +41,8 @@ module _ {M : Type 1} {𝓤 : Ura M} (𝓛 : Logic 𝓤) (kept : ℕ → Fml) (b
 
   -- the word in memory, and that of a running program
   abbrev pub Whole : Fml
-  Whole = fex (List Val) (λ us. fsep (cell_at full_share Data.mir us b o) (fex ℕ (λ n. fsep (Data.own_val (n, tt) us) (kept n))))
+  Whole = fex (List Val) (λ us. fsep (cell_at full_share Data.mir us b o)
+      (fex ℕ (λ n. fsep (Data.own_val (n, tt) us) (kept n))))
 
   abbrev pub Inv : Fml
   Inv = fex ℕ (λ n. fsep (word b (o + 0) n) (kept n))
@@ -65,7 +67,8 @@ module _ {M : Type 1} {𝓤 : Ura M} (𝓛 : Logic 𝓤) (kept : ℕ → Fml) (b
   unfolding part_of
   together n = qed 𝓛 (‵ (Number n) ∷ ‵ (kept n) ∷ []) ∵ fpick ! (λ vs. fsplit ! $ move ! (1 ∷ 2 ∷ []) $ fjoin ! $
       fpack ! ℕ (λ m. fsep (Data.own_val (m, tt) vs) (kept m)) n $ move ! (1 ∷ 0 ∷ []) $ fjoin ! $
-      fpack ! (List Val) (λ us. fsep (cell_at full_share Data.mir us b o) (fex ℕ (λ m. fsep (Data.own_val (m, tt) us) (kept m)))) vs $ done !)
+      fpack ! (List Val) (λ us. fsep (cell_at full_share Data.mir us b o)
+      (fex ℕ (λ m. fsep (Data.own_val (m, tt) us) (kept m)))) vs $ done !)
 
   -- once the borrow has ended the word is whole again
   ends : ent 𝓤 Back ⟦ fwand (fsep (fdead κ) (fseps (Inv ∷ []))) (fupd Whole) ⟧

@@ -12,8 +12,8 @@ pub record Rights : Type 0 where
 abbrev pub nothing : Rights
 nothing = record { readers = 0; upgradable = 0; pending = 0; exclusive = 0 }
 
--- What one has that reads, beside whom others may; that reads and may upgrade; that is to write, and waits for readers to
--- leave; that writes.
+-- What one has that reads, beside whom others may; that reads and may upgrade; that is to write, and waits for readers
+-- to leave; that writes.
 abbrev pub a_reader : Rights
 a_reader = record nothing { readers = 1 }
 

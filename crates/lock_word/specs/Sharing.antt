@@ -1,5 +1,5 @@
--- What the words of a reader-writer lock have, what a `&` to one shares, and what a claim has. Each lock has a name, and
--- of each name there are the rights that its word says, which claims have, or which lie with a word beside it.
+-- What the words of a reader-writer lock have, what a `&` to one shares, and what a claim has. Each lock has a name,
+-- and of each name there are the rights that its word says, which claims have, or which lie with a word beside it.
 use Rattle.std.specs.Prelude.{◌≡◌, ℕ, zero, suc, ◌+◌, ◌-◌, ◌/◌, ◌%◌, ◌≤◌, ◌<◌, min}
 use mathlib.Core.Logic.{inl, inr}
 use base.Fml.{Lft, Fml, ftrue, ffalse, fsep, fex, fall, fbor, fown}
@@ -34,8 +34,8 @@ MayFind had word = (had.readers ≤ readers_in word) × (had.upgradable ≤ upgr
     × (upgradable_in word + writer_in word ≤ 1)
 
 -- What the number doesn't say any longer comes from the one that changes it. It says no writer beside an upgradable
--- owner. And where an exclusive owner may be, who is one at no other number than of a writer with no readers, nobody but
--- the writer lets readers in.
+-- owner. And where it said a writer and no readers nobody but that writer lets readers in: there it may be an exclusive
+-- owner.
 abbrev pub Covers : Rights → ℕ → ℕ → Type 0
 Covers had from to = (readers_in from ≤ had.readers + readers_in to)
     × (upgradable_in from ≤ had.upgradable + upgradable_in to)
@@ -70,7 +70,10 @@ Serves had wanted = (had.readers ≡ wanted.readers) × (had.upgradable ≡ want
 -- what lies with a word beside that of the lock
 abbrev pub lying : ℕ → Rights
 lying word = record {
-  readers = word / 16; upgradable = word / 4 % 2; pending = word / 8 % 2; exclusive = word / 2 % 2;
+  readers = word / 16;
+  upgradable = word / 4 % 2;
+  pending = word / 8 % 2;
+  exclusive = word / 2 % 2;
 }
 
 -- what lies there comes from the one that lays it there

@@ -59,7 +59,8 @@ impl RightsWord {
         unsafe { raw::load::<Brand>(&raw const self.word, SeqCst) }
     }
 
-    /// Writes `to` if the word is `from`, and else looks; answers the word as it was. Rights come and go with its number.
+    /// Writes `to` if the word is `from`, and else looks; answers the word as it was. Rights come and go with its
+    /// number.
     pub(crate) fn exchange(&self, claim: &mut SharedClaim, from: u64, to: u64) -> u64
         requires { (claim.old.name ≡ self.now.0) × May self.now.1 claim.old.held from to }
         ensures { (claim.new.name ≡ self.now.0) × Finds self.now.1 claim.old.held result

@@ -22,8 +22,8 @@ pub const EXCLUSIVE: u64 = 2;
 
 /// The word of a reader-writer lock, and a second word of it in which rights are left for other threads.
 ///
-/// A number says which rights these are: 16 for each reader's share, 8 for a pending writer's right, 4 for an upgradable
-/// owner's, and 2 for an exclusive owner's.
+/// A number says which rights these are: 16 for each reader's share, 8 for a pending writer's right, 4 for an
+/// upgradable owner's, and 2 for an exclusive owner's.
 #[derive(Drop)]
 pub struct SharedHandoff {
     word: SharedWord,

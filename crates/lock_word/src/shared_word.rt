@@ -7,8 +7,8 @@ use crate::rights_word::RightsWord;
 use crate::shared_claim::SharedClaim;
 use std::marker::Model;
 
-/// The word of a reader-writer lock: bit 3 says that there is a writer, bit 2 an upgradable owner, and the bits from 4 on
-/// how many readers there are. Bits 0 and 1 are anybody's.
+/// The word of a reader-writer lock: bit 3 says that there is a writer, bit 2 an upgradable owner, and the bits from 4
+/// on how many readers there are. Bits 0 and 1 are anybody's.
 ///
 /// In a clause it is the name of its lock. Threads read and change it in single steps, each in the one order that all
 /// threads see.
@@ -69,7 +69,8 @@ impl SharedWord {
         self.word.look(claim)
     }
 
-    /// Writes `to` if the word is `from`, and else looks; answers the word as it was. Rights come and go with its number.
+    /// Writes `to` if the word is `from`, and else looks; answers the word as it was. Rights come and go with its
+    /// number.
     #[inline(always)]
     pub fn exchange(&self, claim: &mut SharedClaim, from: u64, to: u64) -> u64
         requires name { claim.old.name ≡ self.now }
@@ -96,7 +97,8 @@ impl SharedWord {
 
     /// Adds to the word, if the sum is none too large and nobody is faster, and answers the word as it was.
     ///
-    /// An addition that lets readers in may find as many as can be counted. So it waits for room: the caller looks again.
+    /// An addition that lets readers in may find as many as can be counted. So it waits for room: the caller looks
+    /// again.
     pub fn try_add(&self, claim: &mut SharedClaim, by: u64) -> Option<u64>
         requires name { claim.old.name ≡ self.now }
         requires may { (word : ℕ) → word + by < 2 ^ 64 → MayExchange claim.old.held word (word + by) }

@@ -1,5 +1,6 @@
 -- `add` is one step, in which rights come and go with the number.
-use Rattle.atomic_table.proofs.Names.{◌≡◌, ℕ, ◌+◌, ◌%◌, ◌^◌, ◌<◌, List, [], ◌∷◌, refl, w64, named, Val, vint, vptr, SProp, wand}
+use Rattle.atomic_table.proofs.Names.{◌≡◌, ℕ, ◌+◌, ◌%◌, ◌^◌, ◌<◌, List, [], ◌∷◌, refl, w64, named, Val, vint, vptr}
+use Rattle.atomic_table.proofs.Names.{SProp, wand}
 use Rattle.atomic_table.proofs.Names.{emp, apply∗, Lft, Share, Fml, ftrue, fsep, flft}
 use Rattle.atomic_table.proofs.Names.{‵, raw, ◌⊛◌, some, given, later, mean, at_ret, ◌$◌, ◌∵◌, !, qed, by, move, keep}
 use Rattle.atomic_table.proofs.Names.{drop, split, split3, join, fsplit, fsplit3, fjoin, fjoin3, fpick, pick, learn}
@@ -84,9 +85,11 @@ add_spec 𝓤 𝓛 𝓜 𝓡 wired =
     rewrite ! 1 (λ (x : ℕ). ‵ (claimed x had.held)) asked.0 refl $ move ! (8 ∷ 6 ∷ 1 ∷ []) $
     use3 𝓛 (raw (𝓣.C _ (vptr b (o + 0) ∷ vint w64 more ∷ seq_cst ∷ []) (λ u. mean 𝓛 (found after u))))
     (via 𝓤 _ (adds 𝓛 name kind α s b o had.held more asked.1)
-    (calls.adds 𝓛 𝓜 𝓡 (code.calls-core::raw_atomic::fetch_add 𝓡.env wired) (block_ptr b (o + 0)) more are.1.1.0.1 after)) $
+    (calls.adds 𝓛 𝓜 𝓡 (code.calls-core::raw_atomic::fetch_add 𝓡.env wired) (block_ptr b (o + 0)) more are.1.1.0.1
+    after)) $
     sets ! (agg ! (and_then ! (lit ! tt) (no_more !))) refl (tt, (record { fits = lit< tt }, tt)) $
-    Calls-last ! (fm 𝓛 𝓜 𝓡) (found after) (and_then ! (get ! refl) (and_then ! (get ! refl) (and_then ! (get ! refl) (no_more !)))) (λ u. finds ! after (λ n fits.
+    Calls-last ! (fm 𝓛 𝓜 𝓡) (found after) (and_then ! (get ! refl) (and_then ! (get ! refl) (and_then ! (get ! refl)
+    (no_more !)))) (λ u. finds ! after (λ n fits.
     lands_last ! refl (tt, record { fits = fits }) $ exec ! 𝓣.C 𝓣.Λ Ev (tail fn.body) (at_ret Ev Post) $
     sets ! (of_opd ! (get ! refl)) refl (tt, record { fits = fits }) $
     fsplit ! $ move ! (0 ∷ 7 ∷ []) $ use2 𝓛 (later (‵ (flft κ q))) (apply∗ 𝓤 (𝓛.A.lft α s) (H.⇛ (𝓛.A.lft κ q))) $

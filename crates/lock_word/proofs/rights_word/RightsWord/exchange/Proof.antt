@@ -121,8 +121,8 @@ exchange_spec 𝓤 𝓛 𝓜 𝓡 wired =
     await ! tt $
     move ! (1 ∷ []) $ fsplit ! $ fpick ! (λ find. drop ! $ move ! (1 ∷ 0 ∷ []) $
     let has : claim.the_row.Denot = record { marker = had.marker; name = name; held = then n } in
-    let Told : Type 0 = (name ≡ name) × Finds kind had.held n × (n ≡ from → then n ≡ then_has kind had.held from to) × (¬ (n ≡ from)
-    → then n ≡ then_has kind had.held n n) in
+    let Told : Type 0 = (name ≡ name) × Finds kind had.held n × (n ≡ from → then n ≡ then_has kind had.held from to)
+    × (¬ (n ≡ from) → then n ≡ then_has kind had.held n n) in
     move ! (2 ∷ 1 ∷ []) $ fjoin ! $ move ! (2 ∷ 0 ∷ 3 ∷ 4 ∷ 5 ∷ []) $ closes ! tt claim.the_row has ts b' o' $
     feq_i ! (List Val) (vptr b' o' ∷ []) (vptr b' o' ∷ []) refl $ fjoin3 ! $
     nothing ! $ nothing ! $ fjoin ! $ nothing ! $ fjoin ! $ move ! (1 ∷ 0 ∷ []) $ fjoin ! $ nothing ! $ fjoin ! $

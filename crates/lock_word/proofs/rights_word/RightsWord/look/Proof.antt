@@ -8,8 +8,8 @@ use Rattle.atomic_table.proofs.Names.{stop, fld, addr, of_opd, no_more, and_then
 use Rattle.atomic_table.proofs.Names.{returns, enter, alloc_all, pass_all, free_all, look_at, get, through, sets}
 use Rattle.atomic_table.proofs.Names.{lands_last, env, agg, lit, lit<}
 use Rattle.atomic_table.proofs.Names.{tables, yes, owns, types_at, plain, block_ptr, nothing, Stays, stay_dropped}
-use Rattle.atomic_table.proofs.Names.{stay_ref, walk_of, Goes-dropped, Goes-ref, fact, fact_i, via, RefOf, u64}
-use Rattle.atomic_table.proofs.Names.{mut_vals, mut_Tells, shr_vals, shr_Tells, uint_vals, uint_Tells, opens, closes}
+use Rattle.atomic_table.proofs.Names.{stay_ref, walk_of, Goes-dropped, Goes-ref, fact, fact_i, via, RefOf}
+use Rattle.atomic_table.proofs.Names.{mut_vals, mut_Tells, shr_vals, shr_Tells, opens, closes}
 use Rattle.atomic_table.proofs.Names.{unhide, Lends-one}
 use Rattle.atomic_table.proofs.Walks.{proved, leaves}
 use Rattle.atomic_table.proofs.Calls.{fm, seq_cst, found, finds, loads}
@@ -84,7 +84,8 @@ look_spec 𝓤 𝓛 𝓜 𝓡 wired =
     (via 𝓤 _ (looks 𝓛 name kind α s b o had.held)
     (loads 𝓛 𝓜 𝓡 (code.calls-core::raw_atomic::load 𝓡.env wired) (block_ptr b (o + 0)) after)) $
     sets ! (agg ! (and_then ! (lit ! tt) (no_more !))) refl (tt, (record { fits = lit< tt }, tt)) $
-    Calls-last ! (fm 𝓛 𝓜 𝓡) (found after) (and_then ! (get ! refl) (and_then ! (get ! refl) (no_more !))) (λ u. finds ! after (λ n fits.
+    Calls-last ! (fm 𝓛 𝓜 𝓡) (found after) (and_then ! (get ! refl) (and_then ! (get ! refl) (no_more !)))
+    (λ u. finds ! after (λ n fits.
     lands_last ! refl (tt, record { fits = fits }) $ exec ! 𝓣.C 𝓣.Λ Ev (tail fn.body) (at_ret Ev Post) $
     sets ! (of_opd ! (get ! refl)) refl (tt, record { fits = fits }) $
     fsplit ! $ move ! (0 ∷ 7 ∷ []) $ use2 𝓛 (later (‵ (flft κ q))) (apply∗ 𝓤 (𝓛.A.lft α s) (H.⇛ (𝓛.A.lft κ q))) $

@@ -1,7 +1,7 @@
 -- `never_both` is handed rights to one lock that don't go together, which nobody can be.
 use Rattle.atomic_table.proofs.Names.{◌≡◌, ℕ, [], ◌∷◌, refl, Val, SProp, ftrue}
-use Rattle.atomic_table.proofs.Names.{‵, raw, ◌⊛◌, given, later, ◌$◌, ◌∵◌, !, qed, by, move, keep, drop, split}
-use Rattle.atomic_table.proofs.Names.{fsplit, learn, use2, await, rewrite, enter, alloc_all, pass_all}
+use Rattle.atomic_table.proofs.Names.{‵, raw, ◌⊛◌, given, ◌$◌, ◌∵◌, !, qed, by, move, keep, drop, split}
+use Rattle.atomic_table.proofs.Names.{fsplit, learn, use2, rewrite}
 use Rattle.atomic_table.proofs.Names.{tables, yes, owns, types_at, plain, alive, Stays, stay_dropped, walk_of}
 use Rattle.atomic_table.proofs.Names.{Goes-dropped}
 use Rattle.atomic_table.proofs.Walks.{proved}
