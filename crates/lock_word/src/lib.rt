@@ -27,6 +27,7 @@ mod owner;
 mod rights_word;
 mod shared_claim;
 mod shared_handoff;
+mod shared_held;
 mod shared_rights;
 mod shared_word;
 
@@ -36,5 +37,6 @@ pub use lock_word::LockWord;
 pub use owner::Owner;
 pub use shared_claim::SharedClaim;
 pub use shared_handoff::{EXCLUSIVE, PENDING, READER, SharedHandoff, UPGRADABLE};
+pub use shared_held::Held;
 pub use shared_rights::{Exclusive, Pending, Reader, Upgradable};
 pub use shared_word::SharedWord;

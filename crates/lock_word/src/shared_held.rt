@@ -1,0 +1,97 @@
+//! Rights to a reader-writer lock with their number, for code that decides by numbers.
+ghost use Rattle.std.specs.Prelude.{◌≡◌, ◌≤◌, ◌+◌, ◌/◌, ◌%◌, min, IsTrue, IfErr, IfSome};
+ghost use Rattle.lock_word.specs.Rights.{nothing};
+ghost use Rattle.lock_word.specs.Sharing.{lying, MayFind, Covers, then_held};
+
+use crate::shared_claim::SharedClaim;
+use crate::shared_handoff::SharedHandoff;
+use crate::shared_word::SharedWord;
+use std::marker::Model;
+
+/// A claim with the number of its rights: 16 for each reader's share, 8, 4 and 2 for the right of a pending writer, an
+/// upgradable owner and an exclusive owner. In a clause it is the name of the lock, and that number.
+pub struct Held {
+    claim: SharedClaim,
+    share: u64,
+    ghost says: { claim.held ≡ lying share },
+}
+
+impl Model for Held {
+    ghost use Rattle.std.specs.Prelude.{ℕ};
+
+    ghost Value = { ℕ × ℕ };
+
+    ghost view = { λ held. (held.claim.name, held.share) };
+}
+
+/// Whether one that has the rights of this number may change the one word to the other.
+fn covers(share: u64, from: u64, to: u64) -> bool
+    ensures { IsTrue result → Covers (lying share) from to }
+{
+    let writer = share / 8 % 2 + share / 2 % 2;
+    from / 16 <= share / 16 + to / 16
+        && from / 4 % 2 <= share / 4 % 2 + to / 4 % 2
+        && from / 8 % 2 <= writer + to / 8 % 2
+        && to / 4 % 2 + to / 8 % 2 <= 1
+        && (to / 16).min(1) + from / 8 % 2 <= from / 16 + writer + 1
+}
+
+/// The number of the rights that it has then.
+fn share_then(share: u64, from: u64, to: u64) -> u64
+    requires find { MayFind (lying share) from }
+    requires covers { Covers (lying share) from to }
+    ensures { lying result ≡ then_held (lying share) from to }
+{
+    let readers = share / 16 + to / 16 - from / 16;
+    let upgradable = share / 4 % 2 + to / 4 % 2 - from / 4 % 2;
+    let writer = share / 8 % 2 + share / 2 % 2 + to / 8 % 2 - from / 8 % 2;
+    let alone = if to / 16 == 0 { writer } else { 0 };
+    16 * readers + 8 * (writer - alone) + 4 * upgradable + 2 * alone
+}
+
+impl Held {
+    /// The number of the rights.
+    #[inline(always)]
+    pub fn share(&self) -> u64
+        ensures { result ≡ self.now.1 }
+    {
+        self.share
+    }
+
+    /// The claim.
+    #[inline(always)]
+    pub fn into_claim(self) -> SharedClaim
+        ensures { (result.name ≡ self.0) × (result.held ≡ lying self.1) }
+    {
+        let Held { claim, share: _ } = self;
+        claim
+    }
+}
+
+impl SharedClaim {
+    /// The claim with the number of its rights.
+    #[inline(always)]
+    pub fn with_share(self, share: u64) -> Held
+        requires { self.held ≡ lying share }
+        ensures { result ≡ (self.name, share) }
+    {
+        Held { claim: self, share }
+    }
+}
+
+impl SharedWord {
+    /// Writes `to` if the word is `from` and these rights cover that, and else looks; answers the word as it was.
+    pub fn step(&self, held: Held, from: u64, to: u64) -> (Held, u64)
+        requires { held.0 ≡ self.now }
+        ensures { result.0.0 ≡ self.now }
+    {
+        let Held { mut claim, share } = held;
+        if !covers(share, from, to) {
+            let word = self.look(&mut claim);
+            return (claim.with_share(share_then(share, word, word)), word);
+        }
+        let word = self.exchange(&mut claim, from, to);
+        let after = if word == from { to } else { word };
+        (claim.with_share(share_then(share, word, after)), word)
+    }
+}
