@@ -1,3 +1,4 @@
 pub mod Owned
 pub mod Decided
 pub mod UpgradeOwned
+pub mod UpgradeDecided

@@ -77,11 +77,13 @@ wakes_has rest count = either (Has (kept_by rest)) (nat_lt 0 count) _ _ refl ref
 serve : (had wanted : Rights) (q : RwPhase) → in_hand q ≡ wanted → Serves had wanted → Serves had (in_hand q)
 serve had wanted q is so = subst (Serves had) (sym is) so
 
-drains_serve : (d : Draining) (word : ℕ) → MayFind a_pending word → Serves (seen_by a_pending word) (in_hand (drains d word))
+drains_serve : (d : Draining) (word : ℕ) → MayFind a_pending word
+    → Serves (seen_by a_pending word) (in_hand (drains d word))
 drains_serve d word find = let P : RwPhase → Type 0 = λ q. Serves (seen_by a_pending word) (in_hand q) in
     let stays = looks a_pending word find in
     tested P (has_readers word) _ _ (λ _. either P (nat_lt 0 d.rounds) _ _ stays
-    (either P (is_writer_parked word) _ _ stays stays)) (λ fails. let none = ltb-false 0 (word / 16) fails in grind arith)
+    (either P (is_writer_parked word) _ _ stays stays))
+    (λ fails. let none = ltb-false 0 (word / 16) fails in grind arith)
 
 -- WHAT AN ADMISSION SHOWS
 
@@ -130,7 +132,8 @@ admitted : (want : LockMode) (woken : Bool) (word : ℕ) → is_admitted want wo
     → Admission nothing want (admits want woken) word
 admitted (mode.Shared recursive) woken word e fits find = let parts = both (has_room word) _ e in
     let room = ltb-true (word / 16) (2 ^ 60 - 1) parts.0 in
-    elim (beside_readers (is_written word) recursive (has_readers word) parts.1) as (λ _. Enters nothing a_reader word ((word + 16) % 2 ^ 64)) [
+    elim (beside_readers (is_written word) recursive (has_readers word) parts.1)
+    as (λ _. Enters nothing a_reader word ((word + 16) % 2 ^ 64)) [
       | inl bar ↦ reads word fits room (inl (unset (word / 8 % 2) (omega arith) bar)) find
       | inr some ↦ reads word fits room (inr (ltb-true 0 (word / 16) some)) find
     ]
@@ -143,7 +146,8 @@ at_zero find = grind arith
 
 tried : (want : LockMode) (word : ℕ) → is_tried want word ≡ true → Admission nothing want (at.Ends (gains want)) word
 tried (mode.Shared recursive) word e fits find = admitted (mode.Shared recursive) false word e fits find
-tried mode.Exclusive word e fits find = subst (λ (n : ℕ). MayFind nothing n → Enters nothing an_exclusive n ((n + 8) % 2 ^ 64))
+tried mode.Exclusive word e fits find =
+    subst (λ (n : ℕ). MayFind nothing n → Enters nothing an_exclusive n ((n + 8) % 2 ^ 64))
     (sym (eqb-true word 0 e)) at_zero find
 
 -- WHAT CHANGES NO RIGHT
@@ -174,14 +178,16 @@ bumps_serve mode.Exclusive word find = let stays = looks an_exclusive word find 
 -- a reader leaves, whatever else its thread has
 unreads : (kept : Rights) (word : ℕ) → word < 2 ^ 64 → MayFind (plus a_reader kept) word
     → kept.pending + kept.exclusive ≡ 0 → Enters (plus a_reader kept) kept word ((word + (2 ^ 64 - 16)) % 2 ^ 64)
-unreads kept word fits find none = let to : (word + (2 ^ 64 - 16)) % 2 ^ 64 ≡ word - 16 = (let some = find.0 in omega arith) in
+unreads kept word fits find none = let some = find.0 in
+    let to : (word + (2 ^ 64 - 16)) % 2 ^ 64 ≡ word - 16 = omega arith in
     rw to (grind arith)
 
 downgrades : (word : ℕ) → word < 2 ^ 64 → MayFind an_exclusive word
     → Enters an_exclusive a_reader word ((word + 8) % 2 ^ 64)
 downgrades word fits find = let to : (word + 8) % 2 ^ 64 ≡ word + 8 = grind arith in rw to (grind arith)
 
-downgrades_has : (word : ℕ) → in_hand (if is_parked word then at.EnterWakeSection else at.Ends outcome.Downgraded) ≡ a_reader
+downgrades_has : (word : ℕ)
+    → in_hand (if is_parked word then at.EnterWakeSection else at.Ends outcome.Downgraded) ≡ a_reader
 downgrades_has word = either (Has a_reader) (is_parked word) _ _ refl refl
 
 -- an exclusive owner gives the lock up, whatever else its thread has
@@ -248,7 +254,8 @@ steps_to : (had wanted : Rights) (q : RwPhase) (from to : ℕ) → in_hand q ≡
     → Enters had (in_hand q) from to
 steps_to had wanted q from to is so = (so.0, serve (then_held had from to) wanted q is so.1)
 
-pub seeks_again : (s : Seeking) (word : ℕ) → MayFind nothing word → Serves (seen_by nothing word) (in_hand (seeks s word))
+pub seeks_again : (s : Seeking) (word : ℕ) → MayFind nothing word
+    → Serves (seen_by nothing word) (in_hand (seeks s word))
 seeks_again s word find = none_serves word (seeks s word) (seeks_has s word) find
 
 pub each_act_fits : (p : RwPhase) → is_decided p ≡ true → ActFits (act_of p) p

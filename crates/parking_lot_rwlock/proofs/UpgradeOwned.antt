@@ -40,12 +40,12 @@ use Rattle.parking_lot_rwlock.proofs.Owned.{Enters, looks, seeks_again, taken, b
 use Rattle.parking_lot_rwlock.proofs.Owned as owned
 
 -- by the two sides of a test
-tested : (P : UpgradePhase → Type 0) (b : Bool) (p q : UpgradePhase) → (b ≡ true → P p) → (b ≡ false → P q)
+pub tested : (P : UpgradePhase → Type 0) (b : Bool) (p q : UpgradePhase) → (b ≡ true → P p) → (b ≡ false → P q)
     → P (if b then p else q)
 tested P true p q holds fails = holds refl
 tested P false p q holds fails = fails refl
 
-either : (P : UpgradePhase → Type 0) (b : Bool) (p q : UpgradePhase) → P p → P q → P (if b then p else q)
+pub either : (P : UpgradePhase → Type 0) (b : Bool) (p q : UpgradePhase) → P p → P q → P (if b then p else q)
 either P b p q one other = tested P b p q (λ _. one) (λ _. other)
 
 -- A PLAIN CALL FITS AS IT DID
@@ -125,9 +125,11 @@ cleared word fits = let f : bit_and (2 ^ 64 - 3) word + bit_and 2 word ≡ word 
     let g : bit_and 2 word ≡ (word / 2 % 2) * 2 = and_comm 2 word ∙ and_pow word 1 in
     let k = and_comm word (2 ^ 64 - 3) in omega arith
 
-yields : (from : Bool) (word : ℕ) → word < 2 ^ 64 → readers_in word ≤ readers_in (change_of (yield_change from) word) + 1
-    → MayFind a_pending word → Enters a_pending (held_of (held_before from)) word (change_of (yield_change from) word)
-yields true word fits room find = let writer = find.2 in let w = cleared word fits in let least : 8 ≤ word = omega arith in
+yields : (from : Bool) (word : ℕ) → word < 2 ^ 64
+    → readers_in word ≤ readers_in (change_of (yield_change from) word) + 1 → MayFind a_pending word
+    → Enters a_pending (held_of (held_before from)) word (change_of (yield_change from) word)
+yields true word fits room find = let writer = find.2 in let w = cleared word fits in
+    let least : 8 ≤ word = omega arith in
     let kept : bit_and word (2 ^ 64 - 3) < 2 ^ 64 = omega arith in let flag : word / 2 % 2 ≤ 1 = omega arith in
     let to : (bit_and word (2 ^ 64 - 3) + 12) % 2 ^ 64 ≡ (word - word / 2 % 2 * 2) + 12 = omega arith in
     rw to (grind arith)
@@ -178,7 +180,7 @@ owes_has h answer word = either (Has (held_of h)) (rw.is_parked word) _ _ refl r
 
 -- ONE THAT ASKS FOR THE UPGRADABLE HOLD
 
-abbrev Seeks : RwPhase → UpgradePhase
+abbrev pub Seeks : RwPhase → UpgradePhase
 Seeks p = up.Seeks (core_at p)
 
 by_room : (s : Seeking) (word : ℕ) (b : Bool) → rw.has_room word ≡ b → rw.is_admitted mode.Exclusive word ≡ true
@@ -190,7 +192,8 @@ by_room s word true room e = (λ fits more find. enters word fits (open_by room 
 by_room s word false room e = seeks_again s
 
 wakes_up : (want : LockMode) → is_exclusive want ≡ true → (b : Bool)
-    → in_hand (if b then up.Ends hold.Upgradable Owned else Seeks (if b then rw.admits want true else at.Loads (rw.begins want true)))
+    → in_hand (if b then up.Ends hold.Upgradable Owned
+    else Seeks (if b then rw.admits want true else at.Loads (rw.begins want true)))
     ≡ plus nothing (if b then an_upgradable else nothing)
 wakes_up want e true = refl
 wakes_up want e false = refl
@@ -211,7 +214,7 @@ seeks_fit p e = absurd (both_ways false refl e)
 
 -- ONE THAT GIVES IT UP IN A SECTION
 
-abbrev Frees : Release → RwPhase → UpgradePhase
+abbrev pub Frees : Release → RwPhase → UpgradePhase
 Frees r p = up.Frees r (core_at p)
 
 finished : (r : Release) (rest : AfterWake) → is_freed rest ≡ true → (b : Bool)
@@ -246,10 +249,11 @@ keeps_hold hold.Shared = refl
 keeps_hold hold.Upgradable = refl
 keeps_hold hold.Exclusive = refl
 
-abbrev Owes : Hold → CoreAnswer → RwPhase → UpgradePhase
+abbrev pub Owes : Hold → CoreAnswer → RwPhase → UpgradePhase
 Owes h answer p = up.Owes h answer (core_at p)
 
-owes_fit : (h : Hold) (answer : CoreAnswer) (p : RwPhase) → is_owing p ≡ true → ActFits (owes_act h answer p) (Owes h answer p)
+owes_fit : (h : Hold) (answer : CoreAnswer) (p : RwPhase) → is_owing p ≡ true
+    → ActFits (owes_act h answer p) (Owes h answer p)
 owes_fit h answer at.EnterWakeSection e = keeps_hold h
 owes_fit h answer (at.Scans s) e = λ token left. inr refl
 owes_fit h answer (at.Stores s left) e = λ fair. inr refl
@@ -298,8 +302,8 @@ each_act_fits (up.Unlocks r word) e = (
 each_act_fits (up.Frees r core) e = frees_fit r core.phase e
 each_act_fits up.ToShared e = λ word fits find. steps_to an_upgradable a_reader (owes hold.Shared Owned word) word
     ((word + (2 ^ 64 - 4)) % 2 ^ 64) (owes_has hold.Shared Owned word) (to_shared word fits find)
-each_act_fits up.ToUpgradable e = λ word fits find. steps_to an_exclusive an_upgradable (owes hold.Upgradable Owned word)
-    word ((word + 12) % 2 ^ 64) (owes_has hold.Upgradable Owned word) (to_upgradable word fits find)
+each_act_fits up.ToUpgradable e = λ word fits find. steps_to an_exclusive an_upgradable
+    (owes hold.Upgradable Owned word) word ((word + 12) % 2 ^ 64) (owes_has hold.Upgradable Owned word) (to_upgradable word fits find)
 each_act_fits (up.YieldLoads from) e = looks a_pending
 each_act_fits (up.Yields from word) e = (
   λ fits room find. steps_to a_pending (held_of (held_before from))

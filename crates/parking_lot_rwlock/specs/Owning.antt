@@ -40,9 +40,9 @@ kept_by rest.Downgraded = a_reader
 kept_by rest.AgainShared = nothing
 kept_by rest.AgainExclusive = nothing
 
--- What the caller has in hand. One that gives the exclusive hold up has it until its exchange is won, or until it enters
--- the section in which it stores: there it is left for whoever is to own the lock next. One that asks has it once it is
--- admitted. One that hasn't begun asks for nothing.
+-- What the caller has in hand. One that gives the exclusive hold up has it until its exchange is won, or until it
+-- enters the section in which it stores: there it is left for whoever is to own the lock next. One that asks has it once
+-- it is admitted. One that hasn't begun asks for nothing.
 abbrev pub in_hand : RwPhase → Rights
 in_hand (at.Locking want) = nothing
 in_hand (at.Trying want) = nothing

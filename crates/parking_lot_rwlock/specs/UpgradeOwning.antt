@@ -124,13 +124,18 @@ is_freeing (at.Finishes rest) = is_freed rest
 is_freeing at.Invalid = true
 is_freeing p = false
 
+-- the same of one that keeps a hold
+abbrev pub is_downgraded : AfterWake → Bool
+is_downgraded rest.Downgraded = true
+is_downgraded other = false
+
 abbrev pub is_owing : RwPhase → Bool
 is_owing at.EnterWakeSection = true
-is_owing (at.Scans scanning) = true
-is_owing (at.Stores scanning left) = true
-is_owing (at.Leaves rest count handed) = true
-is_owing (at.Wakes rest count) = true
-is_owing (at.Finishes rest) = true
+is_owing (at.Scans scanning) = is_downgraded scanning.rest
+is_owing (at.Stores scanning left) = is_downgraded scanning.rest
+is_owing (at.Leaves rest count handed) = is_downgraded rest
+is_owing (at.Wakes rest count) = is_downgraded rest
+is_owing (at.Finishes rest) = is_downgraded rest
 is_owing at.Invalid = true
 is_owing p = false
 
