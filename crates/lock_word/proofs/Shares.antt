@@ -26,10 +26,10 @@ use denote.RawPtr.{block_ptr}
 
 -- What the numbers say where the claim has `had` and others have `other`: what the claim has then, and others have, is
 -- what the new number says, and goes together.
-fits : (had other all : Rights) (from to : ℕ) → MayExchange had from to → Adds had other all
+fits : (had other all : Rights) (from to : ℕ) → from < 2 ^ 64 → MayExchange had from to → Adds had other all
     → Says from all × IsPossible all → MayFind had from × Says to (plus (then_held had from to) other)
     × IsPossible (plus (then_held had from to) other)
-fits had other all from to may adds says = let find : MayFind had from = grind arith in let covers = may find in
+fits had other all from to small may adds says = let find : MayFind had from = grind arith in let covers = may find in
     grind arith
 
 module _ {M : Type 1} {𝓤 : Ura M} (𝓛 : Logic 𝓤) (name : ℕ) where
@@ -132,13 +132,13 @@ module _ {M : Type 1} {𝓤 : Ura M} (𝓛 : Logic 𝓤) (name : ℕ) where
   abbrev pub Then : ℕ → Rights → ℕ → Rights → Fml
   Then kind had n has = fsep (fact (Finds kind had n)) (Claimed has)
 
-  at_lock : (had : Rights) (from to : ℕ) → MayExchange had from to → ⟦ kept name 0 from ⟧ ∗ ⟦ Claimed had ⟧
+  at_lock : (had : Rights) (from to : ℕ) → from < 2 ^ 64 → MayExchange had from to → ⟦ kept name 0 from ⟧ ∗ ⟦ Claimed had ⟧
       ⊢ ⟦ kept name 0 to ⟧ ∗ ⟦ Then 0 had from (then_held had from to) ⟧
-  at_lock had from to may = let Kept : Rights → Fml = λ all. fsep (fact (Says to all × IsPossible all)) (Rest all) in
+  at_lock had from to small may = let Kept : Rights → Fml = λ all. fsep (fact (Says to all × IsPossible all)) (Rest all) in
       let has = then_held had from to in
       qed 𝓛 (‵ (kept name 0 from) ∷ ‵ (Claimed had) ∷ []) ∵ fpick ! (λ all. fsplit ! $ fpick ! (λ says. drop ! $
       use2 𝓛 (some (λ (other : Rights). given (Adds had other all) (‵ (Rest other)))) (joined had all) $
-      pick ! (λ other. learn ! (λ adds. let new = plus has other in let so = fits had other all from to may adds says in
+      pick ! (λ other. learn ! (λ adds. let new = plus has other in let so = fits had other all from to small may adds says in
       use1 𝓛 (‵ (Rest new) ⊛ ‵ (Claimed has)) (parted has other new (summed has other) so.2) $ split ! $
       nothing ! $ fpack ! (Says to new × IsPossible new) (λ _. ftrue) (so.1, so.2) $ fjoin ! $ fpack ! Rights Kept new $
       move ! (1 ∷ []) $ nothing ! $ fpack ! (MayFind had from) (λ _. ftrue) so.0 $ fjoin ! $ move ! (1 ∷ 0 ∷ []) $
@@ -153,10 +153,10 @@ module _ {M : Type 1} {𝓤 : Ura M} (𝓛 : Logic 𝓤) (name : ℕ) where
       move ! (1 ∷ []) $ nothing ! $ fpack ! (Unit {0}) (λ _. ftrue) tt $ fjoin ! $ move ! (1 ∷ 0 ∷ []) $ done !
 
   -- one law for all steps: whoever may change the number has then what the numbers say
-  pub steps : (kind : ℕ) (had : Rights) (from to : ℕ) → May kind had from to → ⟦ kept name kind from ⟧ ∗ ⟦ Claimed had ⟧
+  steps : (kind : ℕ) (had : Rights) (from to : ℕ) → from < 2 ^ 64 → May kind had from to → ⟦ kept name kind from ⟧ ∗ ⟦ Claimed had ⟧
       ⊢ ⟦ kept name kind to ⟧ ∗ ⟦ Then kind had from (then_has kind had from to) ⟧
-  steps zero had from to may = at_lock had from to may
-  steps (suc k) had from to may = beside_it had from to may
+  steps zero had from to small may = at_lock had from to small may
+  steps (suc k) had from to small may = beside_it had from to may
 
   -- a look may always be made
   may_look : (kind : ℕ) (had : Rights) (n : ℕ) → May kind had n n
@@ -196,29 +196,29 @@ module _ {M : Type 1} {𝓤 : Ura M} (𝓛 : Logic 𝓤) (name : ℕ) where
         ≡ then_has kind had n n) (sym (ne_eqb n from miss)) refl
 
     -- an exchange is made where it finds what it was to find, and else it is a look
-    swaps : May kind had from to → (n : ℕ) → ⟦ kept name kind n ⟧ ∗ ⟦ Claimed had ⟧
+    swaps : May kind had from to → (n : ℕ) → n < 2 ^ 64 → ⟦ kept name kind n ⟧ ∗ ⟦ Claimed had ⟧
         ⊢ ⟦ kept name kind (either (eqb n from) to n) ⟧ ∗ ⟦ Then kind had n (has_then n) ⟧
-    swaps may n = let Goes : ℕ → Bool → Type 1 = λ k y. ⟦ kept name kind k ⟧ ∗ ⟦ Claimed had ⟧
+    swaps may n small = let Goes : ℕ → Bool → Type 1 = λ k y. ⟦ kept name kind k ⟧ ∗ ⟦ Claimed had ⟧
         ⊢ ⟦ kept name kind (either y to k) ⟧
         ∗ ⟦ Then kind had k (cond y (then_has kind had from to) (then_has kind had k k)) ⟧ in
         dite (ℕ_discrete n from)
         (λ hit. subst (Goes n) (sym (eq-eqb n from hit)) (subst (λ (k : ℕ). Goes k true) (sym hit)
-        (steps kind had from to may)))
+        (steps kind had from to (subst (λ (k : ℕ). k < 2 ^ 64) hit small) may)))
         (λ miss. subst (Goes n) (sym (ne_eqb n from miss))
-        (steps kind had n n (may_look kind had n)))
+        (steps kind had n n small (may_look kind had n)))
 
   module _ (kind : ℕ) (κ : Lft) (q : Share) (b o : ℕ) (had : Rights) where
     pub looks : A.inv (fbor κ (word_at name kind b o)) ∗ A.lft κ q ∗ ⟦ Claimed had ⟧ ⊢ asks 𝓛 (block_ptr b (o + 0))
         (λ n. n) always (λ n. fsep (flft κ q) (Then kind had n (then_has kind had n n)))
     looks = under 𝓛 (kept name kind) b o κ q (λ n. n) (λ n. Then kind had n (then_has kind had n n)) (Claimed had)
-        (λ n _. steps kind had n n (may_look kind had n))
+        (λ n small. steps kind had n n small (may_look kind had n))
 
     pub exchanges : (from to : ℕ) → May kind had from to
         → A.inv (fbor κ (word_at name kind b o)) ∗ A.lft κ q ∗ ⟦ Claimed had ⟧ ⊢ asks 𝓛 (block_ptr b (o + 0))
         (λ n. either (eqb n from) to n) always (λ n. fsep (flft κ q) (Then kind had n (has_then kind had from to n)))
     exchanges from to may = under 𝓛 (kept name kind) b o κ q (λ n. either (eqb n from) to n)
         (λ n. Then kind had n (has_then kind had from to n)) (Claimed had)
-        (λ n _. swaps kind had from to may n)
+        (swaps kind had from to may)
 
     pub adds : (by : ℕ) → ((n : ℕ) → n < 2 ^ 64 → May kind had n ((n + by) % 2 ^ 64))
         → A.inv (fbor κ (word_at name kind b o)) ∗ A.lft κ q ∗ ⟦ Claimed had ⟧ ⊢ asks 𝓛 (block_ptr b (o + 0))
@@ -226,4 +226,4 @@ module _ {M : Type 1} {𝓤 : Ura M} (𝓛 : Logic 𝓤) (name : ℕ) where
         (λ n. fsep (flft κ q) (Then kind had n (then_has kind had n ((n + by) % 2 ^ 64))))
     adds by may = under 𝓛 (kept name kind) b o κ q (λ n. (n + by) % 2 ^ 64)
         (λ n. Then kind had n (then_has kind had n ((n + by) % 2 ^ 64))) (Claimed had)
-        (λ n fits. steps kind had n ((n + by) % 2 ^ 64) (may n fits))
+        (λ n small. steps kind had n ((n + by) % 2 ^ 64) small (may n small))

@@ -1,6 +1,6 @@
 -- What the words of a reader-writer lock have, what a `&` to one shares, and what a claim has. Each lock has a name,
 -- and of each name there are the rights that its word says, which claims have, or which lie with a word beside it.
-use Rattle.std.specs.Prelude.{◌≡◌, ℕ, zero, suc, ◌+◌, ◌-◌, ◌/◌, ◌%◌, ◌≤◌, ◌<◌, min}
+use Rattle.std.specs.Prelude.{◌≡◌, ℕ, zero, suc, ◌+◌, ◌-◌, ◌/◌, ◌%◌, ◌^◌, ◌≤◌, ◌<◌, min}
 use mathlib.Core.Logic.{inl, inr}
 use base.Fml.{Lft, Fml, ftrue, ffalse, fsep, fex, fall, fbor, fown}
 use denote.RawPtr.{Ptr, block_ptr, null_ptr}
@@ -27,11 +27,11 @@ Says word all = (all.readers ≡ readers_in word) × (all.upgradable ≡ upgrada
     × (all.pending + all.exclusive ≡ writer_in word)
 
 -- One that has these may find this number: they are among those that it says, an exclusive owner finds no readers, and
--- there is no writer beside an upgradable owner.
+-- there is no writer beside an upgradable owner. And it is one of 64 bits.
 abbrev pub MayFind : Rights → ℕ → Type 0
 MayFind had word = (had.readers ≤ readers_in word) × (had.upgradable ≤ upgradable_in word)
     × (had.pending + had.exclusive ≤ writer_in word) × (min (readers_in word) 1 + had.exclusive ≤ 1)
-    × (upgradable_in word + writer_in word ≤ 1)
+    × (upgradable_in word + writer_in word ≤ 1) × (word < 2 ^ 64)
 
 -- What the number doesn't say any longer comes from the one that changes it. It says no writer beside an upgradable
 -- owner. And where it said a writer and no readers nobody but that writer lets readers in: there it may be an exclusive

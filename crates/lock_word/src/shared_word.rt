@@ -87,7 +87,7 @@ impl SharedWord {
     #[inline(always)]
     pub fn add(&self, claim: &mut SharedClaim, by: u64) -> u64
         requires name { claim.old.name ≡ self.now }
-        requires may { (word : ℕ) → word < 2 ^ 64 → MayExchange claim.old.held word ((word + by) % 2 ^ 64) }
+        requires may { (word : ℕ) → MayExchange claim.old.held word ((word + by) % 2 ^ 64) }
         ensures name { claim.new.name ≡ self.now }
         ensures found { MayFind claim.old.held result }
         ensures held { claim.new.held ≡ then_held claim.old.held result ((result + by) % 2 ^ 64) }
