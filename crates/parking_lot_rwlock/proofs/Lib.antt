@@ -2,3 +2,4 @@ pub mod Owned
 pub mod Decided
 pub mod UpgradeOwned
 pub mod UpgradeDecided
+pub mod Served

@@ -115,47 +115,48 @@ beside_readers true false c e = absurd (both_ways false refl e)
 abbrev pub Enters : Rights → Rights → ℕ → ℕ → Type 0
 Enters had wanted from to = Covers had from to × Serves (then_held had from to) wanted
 
-reads : (word : ℕ) → word < 2 ^ 64 → word / 16 < 2 ^ 60 - 1 → (writer_in word ≡ 0) ⊎ (0 < readers_in word)
+reads : (word : ℕ) → word / 16 < 2 ^ 60 - 1 → (writer_in word ≡ 0) ⊎ (0 < readers_in word)
     → MayFind nothing word → Enters nothing a_reader word ((word + 16) % 2 ^ 64)
-reads word fits room (inl none) find = let to : (word + 16) % 2 ^ 64 ≡ word + 16 = omega arith in rw to (grind arith)
-reads word fits room (inr some) find = let to : (word + 16) % 2 ^ 64 ≡ word + 16 = omega arith in rw to (grind arith)
+reads word room (inl none) find = let to : (word + 16) % 2 ^ 64 ≡ word + 16 = omega arith in rw to (grind arith)
+reads word room (inr some) find = let to : (word + 16) % 2 ^ 64 ≡ word + 16 = omega arith in rw to (grind arith)
 
-writes : (word : ℕ) → word < 2 ^ 64 → word / 8 % 2 ≡ 0 → word / 4 % 2 ≡ 0
+writes : (word : ℕ) → word / 8 % 2 ≡ 0 → word / 4 % 2 ≡ 0
     → MayFind nothing word → Enters nothing a_pending word ((word + 8) % 2 ^ 64)
-writes word fits written upgradable find = let to : (word + 8) % 2 ^ 64 ≡ word + 8 = omega arith in rw to (grind arith)
+writes word written upgradable find = let small = find.5 in
+    let to : (word + 8) % 2 ^ 64 ≡ word + 8 = omega arith in rw to (grind arith)
 
 abbrev Admission : Rights → LockMode → RwPhase → ℕ → Type 0
-Admission had want q word = word < 2 ^ 64 → MayFind had word
-    → Enters had (in_hand q) word ((word + share_of want) % 2 ^ 64)
+Admission had want q word = MayFind had word → Enters had (in_hand q) word ((word + share_of want) % 2 ^ 64)
 
 admitted : (want : LockMode) (woken : Bool) (word : ℕ) → is_admitted want word ≡ true
     → Admission nothing want (admits want woken) word
-admitted (mode.Shared recursive) woken word e fits find = let parts = both (has_room word) _ e in
+admitted (mode.Shared recursive) woken word e find = let parts = both (has_room word) _ e in
     let room = ltb-true (word / 16) (2 ^ 60 - 1) parts.0 in
     elim (beside_readers (is_written word) recursive (has_readers word) parts.1)
     as (λ _. Enters nothing a_reader word ((word + 16) % 2 ^ 64)) [
-      | inl bar ↦ reads word fits room (inl (unset (word / 8 % 2) (omega arith) bar)) find
-      | inr some ↦ reads word fits room (inr (ltb-true 0 (word / 16) some)) find
+      | inl bar ↦ reads word room (inl (unset (word / 8 % 2) (omega arith) bar)) find
+      | inr some ↦ reads word room (inr (ltb-true 0 (word / 16) some)) find
     ]
-admitted mode.Exclusive woken word e fits find = let parts = neither (is_written word) (is_upgradable word) e in
-    writes word fits (unset (word / 8 % 2) (omega arith) parts.0) (unset (word / 4 % 2) (omega arith) parts.1) find
+admitted mode.Exclusive woken word e find = let parts = neither (is_written word) (is_upgradable word) e in
+    writes word (unset (word / 8 % 2) (omega arith) parts.0) (unset (word / 4 % 2) (omega arith) parts.1) find
 
 -- a try of a writer is admitted at 0, and owns the lock alone then
 at_zero : MayFind nothing 0 → Enters nothing an_exclusive 0 ((0 + 8) % 2 ^ 64)
 at_zero find = grind arith
 
 tried : (want : LockMode) (word : ℕ) → is_tried want word ≡ true → Admission nothing want (at.Ends (gains want)) word
-tried (mode.Shared recursive) word e fits find = admitted (mode.Shared recursive) false word e fits find
-tried mode.Exclusive word e fits find =
+tried (mode.Shared recursive) word e find = admitted (mode.Shared recursive) false word e find
+tried mode.Exclusive word e find =
     subst (λ (n : ℕ). MayFind nothing n → Enters nothing an_exclusive n ((n + 8) % 2 ^ 64))
     (sym (eqb-true word 0 e)) at_zero find
 
 -- WHAT CHANGES NO RIGHT
 
 -- an exchange that sets a flag
-flags : (had : Rights) (word by : ℕ) → word < 2 ^ 64 → MayFind had word → (word + by) / 4 ≡ word / 4
+flags : (had : Rights) (word by : ℕ) → MayFind had word → (word + by) / 4 ≡ word / 4
     → Enters had had word ((word + by) % 2 ^ 64)
-flags had word by fits find same = let to : (word + by) % 2 ^ 64 ≡ word + by = omega arith in rw to (grind arith)
+flags had word by find same = let small = find.5 in
+    let to : (word + by) % 2 ^ 64 ≡ word + by = omega arith in rw to (grind arith)
 
 no_writer : (rest : AfterWake) → (kept_by rest).pending + (kept_by rest).exclusive ≡ 0
 no_writer rest.FreedShared = refl
@@ -176,15 +177,14 @@ bumps_serve mode.Exclusive word find = let stays = looks an_exclusive word find 
 -- THE ADDITIONS
 
 -- a reader leaves, whatever else its thread has
-unreads : (kept : Rights) (word : ℕ) → word < 2 ^ 64 → MayFind (plus a_reader kept) word
+unreads : (kept : Rights) (word : ℕ) → MayFind (plus a_reader kept) word
     → kept.pending + kept.exclusive ≡ 0 → Enters (plus a_reader kept) kept word ((word + (2 ^ 64 - 16)) % 2 ^ 64)
-unreads kept word fits find none = let some = find.0 in
+unreads kept word find none = let some = find.0 in let small = find.5 in
     let to : (word + (2 ^ 64 - 16)) % 2 ^ 64 ≡ word - 16 = omega arith in
     rw to (grind arith)
 
-downgrades : (word : ℕ) → word < 2 ^ 64 → MayFind an_exclusive word
-    → Enters an_exclusive a_reader word ((word + 8) % 2 ^ 64)
-downgrades word fits find = let to : (word + 8) % 2 ^ 64 ≡ word + 8 = grind arith in rw to (grind arith)
+downgrades : (word : ℕ) → MayFind an_exclusive word → Enters an_exclusive a_reader word ((word + 8) % 2 ^ 64)
+downgrades word find = let to : (word + 8) % 2 ^ 64 ≡ word + 8 = grind arith in rw to (grind arith)
 
 downgrades_has : (word : ℕ)
     → in_hand (if is_parked word then at.EnterWakeSection else at.Ends outcome.Downgraded) ≡ a_reader
@@ -267,12 +267,12 @@ each_act_fits at.Downgrading e = tt
 each_act_fits at.BumpingShared e = tt
 each_act_fits at.BumpingExclusive e = tt
 each_act_fits (at.Loads s) e = seeks_again s
-each_act_fits (at.Admits s word) e = (λ fits room find. admitted s.want false word e fits find, seeks_again s)
+each_act_fits (at.Admits s word) e = (λ room find. admitted s.want false word e find, seeks_again s)
 each_act_fits (at.Spins s) e = λ spun. inr refl
 each_act_fits (at.SetParked s word) e = (
-  λ fits room find.
+  λ room find.
       let clear = unset (word % 2) (omega arith) (no_flag (is_parked word) e) in
-      flags nothing word 1 fits find (omega arith),
+      flags nothing word 1 find (omega arith),
   seeks_again s,
 )
 each_act_fits (at.Enters want woken) e = refl
@@ -284,9 +284,9 @@ each_act_fits (at.Sleeps want) e = λ token. wakes_up want (token.0 == 1)
 each_act_fits (at.DrainLoads d) e = drains_serve d
 each_act_fits (at.DrainSpins d) e = λ spun. inr refl
 each_act_fits (at.DrainSetParked d word) e = (
-  λ fits room find.
+  λ room find.
       let clear = unset (word / 2 % 2) (omega arith) (no_flag (is_writer_parked word) e) in
-      flags a_pending word 2 fits find (omega arith),
+      flags a_pending word 2 find (omega arith),
   drains_serve d,
 )
 each_act_fits (at.DrainEnters d) e = refl
@@ -297,28 +297,28 @@ each_act_fits (at.DrainRests rounds) e = inr refl
 each_act_fits (at.DrainSleeps rounds) e = λ token. refl
 each_act_fits (at.TryLoads want) e = λ word find. none_serves word (tries want 63 word) (tries_has want 63 word) find
 each_act_fits (at.TryAdmits want word left) e = (
-  λ fits room find. tried want word e fits find,
+  λ room find. tried want word e find,
   λ n find. none_serves n (retries want left n) (retries_has want left n) find,
 )
 each_act_fits (at.Refuses want) e = tt
 each_act_fits (at.BumpLoads want) e = bumps_serve want
 each_act_fits (at.Relocks want) e = seeks_again (begins want false)
-each_act_fits (at.Unshares rest) e = λ word fits find. steps_to (plus a_reader (kept_by rest)) (kept_by rest)
+each_act_fits (at.Unshares rest) e = λ word find. steps_to (plus a_reader (kept_by rest)) (kept_by rest)
     (unshares rest word) word ((word + (2 ^ 64 - 16)) % 2 ^ 64) (unshares_has rest word)
-    (unreads (kept_by rest) word fits find (no_writer rest))
+    (unreads (kept_by rest) word find (no_writer rest))
 each_act_fits (at.EnterWriterWakeSection rest) e = leaves_nothing rest
 each_act_fits (at.TakeWriter rest) e = λ token left. inr refl
 each_act_fits (at.ClearWriterParked rest taken) e = λ word. inr refl
 each_act_fits (at.LeaveWriterWakeSection rest taken) e = inr (wakes_has rest (bit taken))
 each_act_fits (at.Unlocks fair rest) e = (
-  λ fits room find. steps_to (plus an_exclusive (kept_by rest)) (kept_by rest)
+  λ room find. steps_to (plus an_exclusive (kept_by rest)) (kept_by rest)
       (over rest) 8 0 (over_has rest) (unlocks (kept_by rest) find),
   looks (plus an_exclusive (kept_by rest)),
 )
 each_act_fits (at.LooksExclusive fair rest) e = refl
-each_act_fits at.Downgrades e = λ word fits find. steps_to an_exclusive a_reader
+each_act_fits at.Downgrades e = λ word find. steps_to an_exclusive a_reader
     (if is_parked word then at.EnterWakeSection else at.Ends outcome.Downgraded) word ((word + 8) % 2 ^ 64)
-    (downgrades_has word) (downgrades word fits find)
+    (downgrades_has word) (downgrades word find)
 each_act_fits at.EnterWakeSection e = refl
 each_act_fits (at.Scans s) e = scans_stay s
 each_act_fits (at.Stores s left) e = λ fair. inr refl

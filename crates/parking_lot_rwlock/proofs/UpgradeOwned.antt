@@ -86,38 +86,38 @@ draining (act.Done answer) core so = so
 
 -- THE STEPS
 
-enters : (word : ℕ) → word < 2 ^ 64 → is_open word ≡ true → MayFind nothing word
+enters : (word : ℕ) → is_open word ≡ true → MayFind nothing word
     → Enters nothing an_upgradable word ((word + 20) % 2 ^ 64)
-enters word fits e find = let parts = both (rw.has_room word) _ e in
+enters word e find = let parts = both (rw.has_room word) _ e in
     let room = ltb-true (word / 16) (2 ^ 60 - 1) parts.0 in
     let bars = neither (rw.is_written word) (rw.is_upgradable word) parts.1 in
     let written = unset (word / 8 % 2) (omega arith) bars.0 in
     let upgradable = unset (word / 4 % 2) (omega arith) bars.1 in
     let to : (word + 20) % 2 ^ 64 ≡ word + 20 = omega arith in rw to (grind arith)
 
-upgrades : (word : ℕ) → word < 2 ^ 64 → MayFind an_upgradable word
+upgrades : (word : ℕ) → MayFind an_upgradable word
     → Enters an_upgradable a_pending word ((word + (2 ^ 64 - 12)) % 2 ^ 64)
-upgrades word fits find = let some = find.0 in
+upgrades word find = let some = find.0 in let small = find.5 in
     let to : (word + (2 ^ 64 - 12)) % 2 ^ 64 ≡ word - 12 = omega arith in rw to (grind arith)
 
-upgrades_alone : (word : ℕ) → word < 2 ^ 64 → is_alone word ≡ true → MayFind an_upgradable word
+upgrades_alone : (word : ℕ) → is_alone word ≡ true → MayFind an_upgradable word
     → Enters an_upgradable an_exclusive word ((word + (2 ^ 64 - 12)) % 2 ^ 64)
-upgrades_alone word fits e find = let alone = eqb-true (word / 16) 1 e in
+upgrades_alone word e find = let small = find.5 in let alone = eqb-true (word / 16) 1 e in
     let to : (word + (2 ^ 64 - 12)) % 2 ^ 64 ≡ word - 12 = omega arith in rw to (grind arith)
 
-unlocked : (word : ℕ) → word < 2 ^ 64 → MayFind an_upgradable word
+unlocked : (word : ℕ) → MayFind an_upgradable word
     → Enters an_upgradable nothing word ((word + (2 ^ 64 - 20)) % 2 ^ 64)
-unlocked word fits find = let some = find.0 in let bit = find.1 in
+unlocked word find = let some = find.0 in let bit = find.1 in let small = find.5 in
     let to : (word + (2 ^ 64 - 20)) % 2 ^ 64 ≡ word - 20 = omega arith in rw to (grind arith)
 
-to_shared : (word : ℕ) → word < 2 ^ 64 → MayFind an_upgradable word
+to_shared : (word : ℕ) → MayFind an_upgradable word
     → Enters an_upgradable a_reader word ((word + (2 ^ 64 - 4)) % 2 ^ 64)
-to_shared word fits find = let some = find.0 in
+to_shared word find = let some = find.0 in let small = find.5 in
     let to : (word + (2 ^ 64 - 4)) % 2 ^ 64 ≡ word - 4 = omega arith in rw to (grind arith)
 
-to_upgradable : (word : ℕ) → word < 2 ^ 64 → MayFind an_exclusive word
+to_upgradable : (word : ℕ) → MayFind an_exclusive word
     → Enters an_exclusive an_upgradable word ((word + 12) % 2 ^ 64)
-to_upgradable word fits find = let to : (word + 12) % 2 ^ 64 ≡ word + 12 = grind arith in rw to (grind arith)
+to_upgradable word find = let to : (word + 12) % 2 ^ 64 ≡ word + 12 = grind arith in rw to (grind arith)
 
 -- the flag of a writer that sleeps is cleared
 cleared : (word : ℕ) → word < 2 ^ 64 → bit_and word (2 ^ 64 - 3) ≡ word - word / 2 % 2 * 2
@@ -125,15 +125,15 @@ cleared word fits = let f : bit_and (2 ^ 64 - 3) word + bit_and 2 word ≡ word 
     let g : bit_and 2 word ≡ (word / 2 % 2) * 2 = and_comm 2 word ∙ and_pow word 1 in
     let k = and_comm word (2 ^ 64 - 3) in omega arith
 
-yields : (from : Bool) (word : ℕ) → word < 2 ^ 64
-    → readers_in word ≤ readers_in (change_of (yield_change from) word) + 1 → MayFind a_pending word
+yields : (from : Bool) (word : ℕ) → readers_in word ≤ readers_in (change_of (yield_change from) word) + 1
+    → MayFind a_pending word
     → Enters a_pending (held_of (held_before from)) word (change_of (yield_change from) word)
-yields true word fits room find = let writer = find.2 in let w = cleared word fits in
+yields true word room find = let writer = find.2 in let small = find.5 in let w = cleared word small in
     let least : 8 ≤ word = omega arith in
     let kept : bit_and word (2 ^ 64 - 3) < 2 ^ 64 = omega arith in let flag : word / 2 % 2 ≤ 1 = omega arith in
     let to : (bit_and word (2 ^ 64 - 3) + 12) % 2 ^ 64 ≡ (word - word / 2 % 2 * 2) + 12 = omega arith in
     rw to (grind arith)
-yields false word fits room find = let writer = find.2 in let w = cleared word fits in
+yields false word room find = let writer = find.2 in let small = find.5 in let w = cleared word small in
     let to : (bit_and word (2 ^ 64 - 3) + (2 ^ 64 - 8)) % 2 ^ 64 ≡ (word - word / 2 % 2 * 2) - 8 = omega arith in
     rw to (grind arith)
 
@@ -185,7 +185,7 @@ Seeks p = up.Seeks (core_at p)
 
 by_room : (s : Seeking) (word : ℕ) (b : Bool) → rw.has_room word ≡ b → rw.is_admitted mode.Exclusive word ≡ true
     → ActFits (if b then act.Exchange word ((word + 20) % 2 ^ 64) else act.Load) (Seeks (at.Admits s word))
-by_room s word true room e = (λ fits more find. enters word fits (open_by room e) find, seeks_again s)
+by_room s word true room e = (λ more find. enters word (open_by room e) find, seeks_again s)
   where
     open_by : rw.has_room word ≡ true → not (rw.is_written word || rw.is_upgradable word) ≡ true → is_open word ≡ true
     open_by room e = ap (λ b. b && not (rw.is_written word || rw.is_upgradable word)) room ∙ e
@@ -279,7 +279,7 @@ each_act_fits (up.GivingUp from) e = tt
 each_act_fits (up.Seeks core) e = seeks_fit core.phase e
 each_act_fits up.TryLoads e = λ word find. keeps nothing (tries 63 word) word (tries_has 63 word) find
 each_act_fits (up.TryAdmits word left) e = (
-  λ fits room find. enters word fits e find,
+  λ room find. enters word e find,
   λ n find. keeps nothing (retries left n) n (retries_has left n) find,
 )
 each_act_fits up.Refuses e = tt
@@ -288,27 +288,28 @@ each_act_fits (up.Drains core) e = draining (rw.act_of core.phase) core (owned.e
 each_act_fits up.TryUpgradeLoads e = λ word find.
     keeps an_upgradable (tries_upgrade 63 word) word (tries_upgrade_has 63 word) find
 each_act_fits (up.TryUpgrades word left) e = (
-  λ fits room find. upgrades_alone word fits e find,
+  λ room find. upgrades_alone word e find,
   λ n find. keeps an_upgradable (retries_upgrade left n) n (retries_upgrade_has left n) find,
 )
 each_act_fits up.BumpLoads e = λ word find. keeps an_upgradable (bumps word) word (bumps_has word) find
 each_act_fits up.Relocks e = seeks_again (rw.begins mode.Exclusive false)
 each_act_fits (up.UnlockLoads r) e = λ word find. keeps an_upgradable (unlocks r word) word (unlocks_has r word) find
 each_act_fits (up.Unlocks r word) e = (
-  λ fits room find. steps_to an_upgradable nothing (over r) word
-      ((word + (2 ^ 64 - 20)) % 2 ^ 64) (over_has r) (unlocked word fits find),
+  λ room find. steps_to an_upgradable nothing (over r) word
+      ((word + (2 ^ 64 - 20)) % 2 ^ 64) (over_has r) (unlocked word find),
   λ n find. keeps an_upgradable (unlocks r n) n (unlocks_has r n) find,
 )
 each_act_fits (up.Frees r core) e = frees_fit r core.phase e
-each_act_fits up.ToShared e = λ word fits find. steps_to an_upgradable a_reader (owes hold.Shared Owned word) word
-    ((word + (2 ^ 64 - 4)) % 2 ^ 64) (owes_has hold.Shared Owned word) (to_shared word fits find)
-each_act_fits up.ToUpgradable e = λ word fits find. steps_to an_exclusive an_upgradable
-    (owes hold.Upgradable Owned word) word ((word + 12) % 2 ^ 64) (owes_has hold.Upgradable Owned word) (to_upgradable word fits find)
+each_act_fits up.ToShared e = λ word find. steps_to an_upgradable a_reader (owes hold.Shared Owned word) word
+    ((word + (2 ^ 64 - 4)) % 2 ^ 64) (owes_has hold.Shared Owned word) (to_shared word find)
+each_act_fits up.ToUpgradable e = λ word find. steps_to an_exclusive an_upgradable
+    (owes hold.Upgradable Owned word) word ((word + 12) % 2 ^ 64) (owes_has hold.Upgradable Owned word)
+    (to_upgradable word find)
 each_act_fits (up.YieldLoads from) e = looks a_pending
 each_act_fits (up.Yields from word) e = (
-  λ fits room find. steps_to a_pending (held_of (held_before from))
+  λ room find. steps_to a_pending (held_of (held_before from))
       (owes (held_before from) Released word) word (change_of (yield_change from) word)
-      (owes_has (held_before from) Released word) (yields from word fits room find),
+      (owes_has (held_before from) Released word) (yields from word room find),
   looks a_pending,
 )
 each_act_fits (up.Owes h answer core) e = owes_fit h answer core.phase e

@@ -1,5 +1,5 @@
 -- Which rights to a reader-writer lock are in hand in each phase of a call, and what an act may do to them.
-use Rattle.std.specs.Prelude.{◌≡◌, ◌⊎◌, ℕ, ◌+◌, ◌%◌, ◌^◌, ◌<◌, ◌≤◌, ◌==◌, not, Bool, true, false}
+use Rattle.std.specs.Prelude.{◌≡◌, ◌⊎◌, ℕ, ◌+◌, ◌%◌, ◌^◌, ◌≤◌, ◌==◌, not, Bool, true, false}
 use Rattle.std.specs.Prelude.{if◌then◌else◌, Option}
 use Rattle.lock_word.specs.Rights.{Rights, nothing, plus, a_reader, a_pending, an_exclusive}
 use Rattle.lock_word.specs.Sharing.{readers_in, MayFind, Covers, seen_by, then_held, Serves}
@@ -41,8 +41,8 @@ kept_by rest.AgainShared = nothing
 kept_by rest.AgainExclusive = nothing
 
 -- What the caller has in hand. One that gives the exclusive hold up has it until its exchange is won, or until it
--- enters the section in which it stores: there it is left for whoever is to own the lock next. One that asks has it once
--- it is admitted. One that hasn't begun asks for nothing.
+-- enters the section in which it stores: there it is left for whoever is to own the lock next. One that asks has it
+-- once it is admitted. One that hasn't begun asks for nothing.
 abbrev pub in_hand : RwPhase → Rights
 in_hand (at.Locking want) = nothing
 in_hand (at.Trying want) = nothing
@@ -134,10 +134,10 @@ module _ {P : Type 0} (hand : P → Rights) (next : P → ActResult → P) (left
   -- An exchange may not be made where the word has counted as many readers as it can, and is to begin anew.
   abbrev pub Fits : Act → P → Type 0
   Fits act.Load p = (word : ℕ) → MayFind (hand p) word → Serves (seen_by (hand p) word) (hand (next p (gave.Word word)))
-  Fits (act.Exchange from to) p = (from < 2 ^ 64 → readers_in from ≤ readers_in to + 1 → MayFind (hand p) from
+  Fits (act.Exchange from to) p = (readers_in from ≤ readers_in to + 1 → MayFind (hand p) from
       → Steps (hand p) (hand (next p gave.Exchanged)) from to)
       × ((word : ℕ) → MayFind (hand p) word → Serves (seen_by (hand p) word) (hand (next p (gave.Word word))))
-  Fits (act.Add by) p = (word : ℕ) → word < 2 ^ 64 → MayFind (hand p) word
+  Fits (act.Add by) p = (word : ℕ) → MayFind (hand p) word
       → Steps (hand p) (hand (next p (gave.Before word))) word ((word + by) % 2 ^ 64)
   Fits (act.FetchAnd keep) p = (word : ℕ) → Stays p (next p (gave.Before word))
   Fits act.Spin p = (spun : Bool) → Stays p (next p (gave.Spun spun))

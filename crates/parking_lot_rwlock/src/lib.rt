@@ -9,6 +9,7 @@
 //! writers from one value is the std lock in which a generic lock keeps it.
 #![tactic(auto)]
 
+mod acts;
 pub mod laws;
 mod raw_rwlock;
 mod raw_rwlock_timed;
