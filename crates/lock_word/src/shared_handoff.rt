@@ -4,7 +4,7 @@ ghost use Rattle.lock_word.specs.Rights.{Adds};
 ghost use Rattle.lock_word.specs.Sharing.{lying};
 
 use crate::rights_word::RightsWord;
-use crate::shared_claim::SharedClaim;
+use crate::shared_held::Held;
 use crate::shared_rights::{Exclusive, Pending, Reader, Upgradable};
 use crate::shared_word::SharedWord;
 
@@ -60,12 +60,12 @@ impl SharedHandoff {
 
     /// Leaves rights for other threads, if it can by one step. They come back where another thread has been faster, or
     /// where there is no room for them, which can't be as long as they can be had.
-    pub fn leave(&self, claim: SharedClaim, share: u64) -> Result<(), SharedClaim>
-        requires name { claim.name ≡ self.now.word }
-        requires held { claim.held ≡ lying share }
-        ensures { IfErr result (λ claim. (claim.name ≡ self.now.word) × (claim.held ≡ lying share)) }
+    pub fn leave(&self, held: Held) -> Result<(), Held>
+        requires { held.0 ≡ self.now.word }
+        ensures { IfErr result (λ kept. kept ≡ held) }
     {
-        let mut kept = claim;
+        let share = held.share();
+        let mut kept = held.into_claim();
         let lies = self.lies();
         if let Some(to) = lies.checked_add(share)
             && is_sum(lies, share, to)
@@ -75,12 +75,12 @@ impl SharedHandoff {
                 return Ok(());
             }
         }
-        Err(kept)
+        Err(kept.with_share(share))
     }
 
     /// Takes rights that were left, if they lie there and it can by one step.
-    pub fn take(&self, share: u64) -> Option<SharedClaim>
-        ensures { IfSome result (λ claim. (claim.name ≡ self.now.word) × (claim.held ≡ lying share)) }
+    pub fn take(&self, share: u64) -> Option<Held>
+        ensures { IfSome result (λ held. held ≡ (self.now.word, share)) }
     {
         let mut claim = self.word.no_claim();
         let lies = self.lies();
@@ -88,7 +88,7 @@ impl SharedHandoff {
             && is_sum(to, share, lies)
         {
             if self.left.exchange(&mut claim, lies, to) == lies {
-                return Some(claim);
+                return Some(claim.with_share(share));
             }
         }
         claim.end();
@@ -100,7 +100,7 @@ impl SharedHandoff {
         ensures { IfSome result (λ reader. reader ≡ self.now.word) }
     {
         match self.take(READER) {
-            Some(claim) => Some(claim.into_reader()),
+            Some(held) => Some(held.into_claim().into_reader()),
             None => None,
         }
     }
@@ -110,7 +110,7 @@ impl SharedHandoff {
         ensures { IfSome result (λ owner. owner ≡ self.now.word) }
     {
         match self.take(READER + UPGRADABLE) {
-            Some(claim) => Some(claim.into_upgradable()),
+            Some(held) => Some(held.into_claim().into_upgradable()),
             None => None,
         }
     }
@@ -120,7 +120,7 @@ impl SharedHandoff {
         ensures { IfSome result (λ owner. owner ≡ self.now.word) }
     {
         match self.take(PENDING) {
-            Some(claim) => Some(claim.into_pending()),
+            Some(held) => Some(held.into_claim().into_pending()),
             None => None,
         }
     }
@@ -130,7 +130,7 @@ impl SharedHandoff {
         ensures { IfSome result (λ owner. owner ≡ self.now.word) }
     {
         match self.take(EXCLUSIVE) {
-            Some(claim) => Some(claim.into_exclusive()),
+            Some(held) => Some(held.into_claim().into_exclusive()),
             None => None,
         }
     }

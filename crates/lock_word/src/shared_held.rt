@@ -1,10 +1,8 @@
 //! Rights to a reader-writer lock with their number, for code that decides by numbers.
-ghost use Rattle.std.specs.Prelude.{◌≡◌, ◌≤◌, ◌+◌, ◌/◌, ◌%◌, min, IsTrue, IfErr, IfSome};
-ghost use Rattle.lock_word.specs.Rights.{nothing};
+ghost use Rattle.std.specs.Prelude.{◌≡◌, IsTrue, IfOk, IfErr};
 ghost use Rattle.lock_word.specs.Sharing.{lying, MayFind, Covers, then_held};
 
 use crate::shared_claim::SharedClaim;
-use crate::shared_handoff::SharedHandoff;
 use crate::shared_word::SharedWord;
 use std::marker::Model;
 
@@ -80,18 +78,24 @@ impl SharedClaim {
 }
 
 impl SharedWord {
-    /// Writes `to` if the word is `from` and these rights cover that, and else looks; answers the word as it was.
-    pub fn step(&self, held: Held, from: u64, to: u64) -> (Held, u64)
+    /// Writes `to` if the word is `from` and these rights cover that, and else looks, and answers the word with what it
+    /// has. So a step that the rights don't cover isn't made, and the caller may try again.
+    pub fn step(&self, held: Held, from: u64, to: u64) -> Result<Held, (Held, u64)>
         requires { held.0 ≡ self.now }
-        ensures { result.0.0 ≡ self.now }
+        ensures made { IfOk result (λ has. (has.0 ≡ self.now) × (lying has.1 ≡ then_held (lying held.1) from to)) }
+        ensures not_made { IfErr result (λ kept. (kept.0.0 ≡ self.now)
+            × (lying kept.0.1 ≡ then_held (lying held.1) kept.1 kept.1)) }
     {
         let Held { mut claim, share } = held;
         if !covers(share, from, to) {
             let word = self.look(&mut claim);
-            return (claim.with_share(share_then(share, word, word)), word);
+            return Err((claim.with_share(share_then(share, word, word)), word));
         }
         let word = self.exchange(&mut claim, from, to);
-        let after = if word == from { to } else { word };
-        (claim.with_share(share_then(share, word, after)), word)
+        if word == from {
+            Ok(claim.with_share(share_then(share, from, to)))
+        } else {
+            Err((claim.with_share(share_then(share, word, word)), word))
+        }
     }
 }
