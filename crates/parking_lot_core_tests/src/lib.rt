@@ -22,6 +22,8 @@ mod script;
 #[cfg(test)]
 mod sections;
 #[cfg(test)]
+mod shared_words;
+#[cfg(test)]
 mod sleepers;
 #[cfg(test)]
 mod threads;
