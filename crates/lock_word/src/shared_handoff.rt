@@ -1,9 +1,10 @@
 //! Handing rights to a reader-writer lock over.
 ghost use Rattle.std.specs.Prelude.{◌≡◌, ◌↔◌, IfErr, IfSome, IsTrue};
 ghost use Rattle.lock_word.specs.Rights.{Adds};
-ghost use Rattle.lock_word.specs.Sharing.{lying};
+ghost use Rattle.lock_word.specs.Sharing.{lying, Serves};
 
 use crate::rights_word::RightsWord;
+use crate::shared_claim::SharedClaim;
 use crate::shared_held::Held;
 use crate::shared_rights::{Exclusive, Pending, Reader, Upgradable};
 use crate::shared_word::SharedWord;
@@ -93,6 +94,22 @@ impl SharedHandoff {
         }
         claim.end();
         None
+    }
+
+    /// Takes rights that are as good as those of this number: an exclusive owner's where a pending writer's don't lie
+    /// there.
+    pub fn take_as(&self, share: u64) -> Option<SharedClaim>
+        ensures name { IfSome result (λ claim. claim.name ≡ self.now.word) }
+        ensures has { IfSome result (λ claim. Serves claim.held (lying share)) }
+    {
+        if let Some(held) = self.take(share) {
+            return Some(held.into_claim());
+        }
+        if share != PENDING {
+            return None;
+        }
+        let held = self.take(EXCLUSIVE)?;
+        Some(held.into_claim())
     }
 
     /// Takes a reader's share.

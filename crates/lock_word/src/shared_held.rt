@@ -1,6 +1,6 @@
 //! Rights to a reader-writer lock with their number, for code that decides by numbers.
 ghost use Rattle.std.specs.Prelude.{◌≡◌, IsTrue, IfOk, IfErr};
-ghost use Rattle.lock_word.specs.Sharing.{lying, MayFind, Covers, then_held};
+ghost use Rattle.lock_word.specs.Sharing.{lying, MayFind, Covers, then_held, Serves};
 
 use crate::shared_claim::SharedClaim;
 use crate::shared_word::SharedWord;
@@ -78,6 +78,18 @@ impl SharedClaim {
 }
 
 impl SharedWord {
+    /// Looks which rights a claim has that has as good as those of this number: a writer may be the exclusive owner.
+    pub fn numbered(&self, claim: SharedClaim, share: u64) -> Held
+        requires name { claim.name ≡ self.now }
+        requires had { Serves claim.held (lying share) }
+        ensures name { result.0 ≡ self.now }
+        ensures has { Serves (lying result.1) (lying share) }
+    {
+        let mut kept = claim;
+        let word = self.look(&mut kept);
+        kept.with_share(share_then(share, word, word))
+    }
+
     /// Writes `to` if the word is `from` and these rights cover that, and else looks, and answers the word with what it
     /// has. So a step that the rights don't cover isn't made, and the caller may try again.
     pub fn step(&self, held: Held, from: u64, to: u64) -> Result<Held, (Held, u64)>

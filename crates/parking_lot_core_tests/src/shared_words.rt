@@ -1,5 +1,5 @@
-//! Words of reader-writer locks, for what no clause of them says: which numbers the steps find and write, that the rights
-//! can be had, and that they exclude.
+//! Words of reader-writer locks, for what no clause of them says: which numbers the steps find and write, that the
+//! rights can be had, and that they exclude.
 ghost use Rattle.std.specs.Prelude.{◌≡◌};
 
 use lock_word::{EXCLUSIVE, Held, PENDING, READER, SharedHandoff, SharedWord, UPGRADABLE};

@@ -10,6 +10,7 @@
 #![tactic(auto)]
 
 mod acts;
+mod hands;
 pub mod laws;
 mod raw_rwlock;
 mod raw_rwlock_timed;
