@@ -18,7 +18,7 @@ use Rattle.lock_word.specs.Rights.{Rights, amount, plus, Adds, IsPossible}
 use Rattle.lock_word.specs.RightsState.{Part, rights, graph, summed, same, one_sum, swapped, fewer}
 use Rattle.lock_word.specs.Sharing.{Says, MayFind, MayExchange, then_held, lying, MayLay, then_left, fact, has, rest}
 use Rattle.lock_word.specs.Sharing.{claimed, kept, word_at, May, Finds, then_has}
-use Rattle.lock_word.specs.Rights.{nothing as none, IsClash}
+use Rattle.lock_word.specs.Rights.{nothing as unheld, IsClash}
 use Rattle.lock_word.proofs.Words.{under}
 use Rattle.core.specs.Sync.RawAtomic.{asks, always}
 use prog.Atomic.{either}
@@ -132,13 +132,15 @@ module _ {M : Type 1} {𝓤 : Ura M} (𝓛 : Logic 𝓤) (name : ℕ) where
   abbrev pub Then : ℕ → Rights → ℕ → Rights → Fml
   Then kind had n has = fsep (fact (Finds kind had n)) (Claimed has)
 
-  at_lock : (had : Rights) (from to : ℕ) → from < 2 ^ 64 → MayExchange had from to → ⟦ kept name 0 from ⟧ ∗ ⟦ Claimed had ⟧
-      ⊢ ⟦ kept name 0 to ⟧ ∗ ⟦ Then 0 had from (then_held had from to) ⟧
-  at_lock had from to small may = let Kept : Rights → Fml = λ all. fsep (fact (Says to all × IsPossible all)) (Rest all) in
+  at_lock : (had : Rights) (from to : ℕ) → from < 2 ^ 64 → MayExchange had from to
+      → ⟦ kept name 0 from ⟧ ∗ ⟦ Claimed had ⟧ ⊢ ⟦ kept name 0 to ⟧ ∗ ⟦ Then 0 had from (then_held had from to) ⟧
+  at_lock had from to small may =
+      let Kept : Rights → Fml = λ all. fsep (fact (Says to all × IsPossible all)) (Rest all) in
       let has = then_held had from to in
       qed 𝓛 (‵ (kept name 0 from) ∷ ‵ (Claimed had) ∷ []) ∵ fpick ! (λ all. fsplit ! $ fpick ! (λ says. drop ! $
       use2 𝓛 (some (λ (other : Rights). given (Adds had other all) (‵ (Rest other)))) (joined had all) $
-      pick ! (λ other. learn ! (λ adds. let new = plus has other in let so = fits had other all from to small may adds says in
+      pick ! (λ other. learn ! (λ adds. let new = plus has other in
+      let so = fits had other all from to small may adds says in
       use1 𝓛 (‵ (Rest new) ⊛ ‵ (Claimed has)) (parted has other new (summed has other) so.2) $ split ! $
       nothing ! $ fpack ! (Says to new × IsPossible new) (λ _. ftrue) (so.1, so.2) $ fjoin ! $ fpack ! Rights Kept new $
       move ! (1 ∷ []) $ nothing ! $ fpack ! (MayFind had from) (λ _. ftrue) so.0 $ fjoin ! $ move ! (1 ∷ 0 ∷ []) $
@@ -153,8 +155,8 @@ module _ {M : Type 1} {𝓤 : Ura M} (𝓛 : Logic 𝓤) (name : ℕ) where
       move ! (1 ∷ []) $ nothing ! $ fpack ! (Unit {0}) (λ _. ftrue) tt $ fjoin ! $ move ! (1 ∷ 0 ∷ []) $ done !
 
   -- one law for all steps: whoever may change the number has then what the numbers say
-  steps : (kind : ℕ) (had : Rights) (from to : ℕ) → from < 2 ^ 64 → May kind had from to → ⟦ kept name kind from ⟧ ∗ ⟦ Claimed had ⟧
-      ⊢ ⟦ kept name kind to ⟧ ∗ ⟦ Then kind had from (then_has kind had from to) ⟧
+  steps : (kind : ℕ) (had : Rights) (from to : ℕ) → from < 2 ^ 64 → May kind had from to
+      → ⟦ kept name kind from ⟧ ∗ ⟦ Claimed had ⟧ ⊢ ⟦ kept name kind to ⟧ ∗ ⟦ Then kind had from (then_has kind had from to) ⟧
   steps zero had from to small may = at_lock had from to small may
   steps (suc k) had from to small may = beside_it had from to may
 
@@ -164,10 +166,10 @@ module _ {M : Type 1} {𝓤 : Ura M} (𝓛 : Logic 𝓤) (name : ℕ) where
   may_look (suc k) had n = grind arith
 
   -- nobody is in a new lock
-  pub begins : ⟦ Rest none ⟧ ⊢ ⟦ kept name 0 0 ⟧
+  pub begins : ⟦ Rest unheld ⟧ ⊢ ⟦ kept name 0 0 ⟧
   begins = let Kept : Rights → Fml = λ all. fsep (fact (Says 0 all × IsPossible all)) (Rest all) in
-      qed 𝓛 (‵ (Rest none) ∷ []) ∵ nothing ! $ fpack ! (Says 0 none × IsPossible none) (λ _. ftrue) (grind arith) $
-      fjoin ! $ fpack ! Rights Kept none $ done !
+      qed 𝓛 (‵ (Rest unheld) ∷ []) ∵ nothing ! $
+      fpack ! (Says 0 unheld × IsPossible unheld) (λ _. ftrue) (grind arith) $ fjoin ! $ fpack ! Rights Kept unheld $ done !
 
   -- two have what nobody has at one time
   pub never : (a b : Rights) (X : Pr) → IsClash a b → ⟦ Claimed a ⟧ ∗ ⟦ Claimed b ⟧ ⊢ X

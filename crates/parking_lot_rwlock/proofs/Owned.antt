@@ -22,7 +22,8 @@ use Rattle.parking_lot_protocol.specs.RwTable.{act_of, next_phase, is_admitted, 
 use Rattle.parking_lot_protocol.specs.RwTable.{is_writer_parked, is_written, is_upgradable, has_readers, has_room}
 use Rattle.parking_lot_protocol.specs.RwTable.{share_of, seeks, drains, tries, retries, admits, gains, over, bumps}
 use Rattle.parking_lot_protocol.specs.RwTable.{unshares, begins, wakes, goes_on, scans}
-use Rattle.parking_lot_rwlock.specs.Owning.{held_as, kept_by, in_hand, left_for, handed_as, handed_to, is_decided, is_lost}
+use Rattle.parking_lot_rwlock.specs.Owning.{held_as, kept_by, in_hand, left_for, handed_as, handed_to, is_decided}
+use Rattle.parking_lot_rwlock.specs.Owning.{is_lost}
 use Rattle.parking_lot_rwlock.specs.Owning.{Stays, ActFits}
 use Rattle.parking_lot_rules.specs.Classes.{bit}
 

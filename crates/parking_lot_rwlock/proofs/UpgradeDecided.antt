@@ -27,7 +27,8 @@ use Rattle.parking_lot_protocol_rw.specs.UpgradeTable.{next_phase, own_next, beg
 use Rattle.parking_lot_protocol_rw.specs.UpgradeTable.{is_alone}
 use Rattle.parking_lot_protocol_rw.specs.UpgradeTable.{owns_now, asks_now, tries, tries_upgrade}
 use Rattle.parking_lot_protocol_rw.specs.UpgradeTable.{unlocks, owes, is_again}
-use Rattle.parking_lot_rwlock.specs.UpgradeOwning.{is_exclusive, is_seeking, is_freed, is_freeing, is_downgraded, is_owing}
+use Rattle.parking_lot_rwlock.specs.UpgradeOwning.{is_exclusive, is_seeking, is_freed, is_freeing, is_downgraded}
+use Rattle.parking_lot_rwlock.specs.UpgradeOwning.{is_owing}
 use Rattle.parking_lot_rwlock.specs.UpgradeOwning.{is_decided}
 use Rattle.parking_lot_rwlock.proofs.Owned as plain
 use Rattle.parking_lot_rwlock.proofs.Decided as follow

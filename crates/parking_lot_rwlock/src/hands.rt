@@ -1,5 +1,5 @@
-//! What calls have in hand at the sections that they go through, and the word of a lock there. A call leaves what it has
-//! as it enters a section, and takes up what it has then as it has left it.
+//! What calls have in hand at the sections that they go through, and the word of a lock there. A call leaves what it
+//! has as it enters a section, and takes up what it has then as it has left it.
 ghost use Rattle.std.specs.Prelude.{◌≡◌, ◌≤◌};
 ghost use Rattle.lock_word.specs.Sharing.{lying, Serves};
 ghost use Rattle.parking_lot_rwlock.specs.Owning.{in_hand, held_at_end, kept_by};

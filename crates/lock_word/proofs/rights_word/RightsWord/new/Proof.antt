@@ -8,7 +8,7 @@ use Rattle.atomic_table.proofs.Names.{tables, owns, types_at, nothing, alive, St
 use Rattle.atomic_table.proofs.Walks.{proved, leaves}
 use mathlib.Core.Logic.{inl}
 use types.Owned.{basic, own_new}
-use Rattle.lock_word.specs.Rights.{nothing as none}
+use Rattle.lock_word.specs.Rights.{nothing as unheld}
 use Rattle.lock_word.specs.RightsState.{rights}
 use Rattle.lock_word.specs.Sharing.{rest, kept}
 use Rattle.lock_word.proofs.Shares.{begins}
@@ -33,7 +33,7 @@ new_spec 𝓤 𝓛 𝓜 𝓡 wired =
     split ! $ keep ! (0 ∷ []) $
     enter ! 𝓣.C 𝓣.Λ fn [] Post $ alloc_all ! (λ l. pass_all ! refl tt $
     sets ! (agg ! (and_then ! (lit ! tt) (no_more !))) refl (tt, (record { fits = fits }, tt)) $
-    use0 𝓛 (later (some (λ (name : ℕ). ‵ (rest name none)))) (via 𝓤 _ (own_new 𝓛 rights (inl none)) (basic 𝓛 _)) $
+    use0 𝓛 (later (some (λ (name : ℕ). ‵ (rest name unheld)))) (via 𝓤 _ (own_new 𝓛 rights (inl unheld)) (basic 𝓛 _)) $
     await ! tt $ pick ! (λ name. use1 𝓛 (‵ (kept name 0 0)) (begins 𝓛 name) $
     use0 𝓛 (‵ (Has 0)) (makes_shadow 𝓛 (Has 0) (λ vss. (tt, ((tt, tt), tt))) (
       (vint w64 0 ∷ [], tt),

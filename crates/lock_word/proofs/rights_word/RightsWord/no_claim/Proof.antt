@@ -5,7 +5,7 @@ use Rattle.atomic_table.proofs.Names.{returns, enter, alloc_all, pass_all, free_
 use Rattle.atomic_table.proofs.Names.{tables, yes, owns, types_at, plain, nothing, alive, Stays, stay_dropped}
 use Rattle.atomic_table.proofs.Names.{walk_of, Goes-dropped, fact, fact_i, RefOf, shr_vals, shr_Tells}
 use Rattle.atomic_table.proofs.Walks.{proved, leaves}
-use Rattle.lock_word.specs.Rights.{nothing as none}
+use Rattle.lock_word.specs.Rights.{nothing as unheld}
 use Rattle.lock_word.specs.Sharing.{claimed}
 use Rattle.lock_word.proofs.Shares.{no_rights}
 use Rattle.lock_word.proofs.Claims.{claim_val, Bare, claim_made}
@@ -25,14 +25,14 @@ no_claim_spec 𝓤 𝓛 𝓜 𝓡 wired =
     proved 𝓛 En hs c 𝓜 𝓡 (Goes-dropped 𝓛 1 self yes (λ κs x f. refl), tt) #self fn (code.unfolded 𝓤 H 𝓜 𝓡 wired)
     (λ κs. (shr_vals, tt)) (λ κs. (shr_Tells (named 0) κs.0 lock.the_row, tt)) (λ κs qs bounds a gh are.
     let at : Val = vptr a.0.ref_ptr.0 a.0.ref_ptr.1 in let name : ℕ = a.0.now.0 in
-    let it : claim.the_row.Denot = record { marker = record {}; name = name; held = none } in
-    let Told : Type 0 = (name ≡ name) × (none ≡ none) in
+    let it : claim.the_row.Denot = record { marker = record {}; name = name; held = unheld } in
+    let Told : Type 0 = (name ≡ name) × (unheld ≡ unheld) in
     let y : (walk_of 𝓛 En hs c).Ghost = ((κs, qs, bounds, a, (at ∷ [], tt)), gh) in
     let Post : Val → SProp 𝓤 = (walk_of 𝓛 En hs c).post y in
     qed 𝓛 ((raw (alive 𝓛 En.signature κs qs) ⊛ ‵ (owns (types_at En.signature.params κs) a y.0.4)) ∷ raw
     ((c κs a).requires gh) ∷ []) ∵
     split ! $ keep ! (0 ∷ []) $
-    use0 𝓛 (‵ (claimed name none)) (no_rights 𝓛 name none refl) $
+    use0 𝓛 (‵ (claimed name unheld)) (no_rights 𝓛 name unheld refl) $
     use0 𝓛 (‵ (Bare.own_val (tt, tt) (claim_val ∷ []))) (claim_made 𝓛) $ fjoin ! $
     enter ! 𝓣.C 𝓣.Λ fn (at ∷ []) Post $ alloc_all ! (λ l. pass_all ! refl ((tt, tt), tt) $
     sets ! (agg ! (no_more !)) refl (tt, tt) $ sets ! (agg ! (and_then ! (get ! refl) (no_more !))) refl (
