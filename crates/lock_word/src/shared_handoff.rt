@@ -37,7 +37,7 @@ pub struct SharedHandoff {
 fn is_sum(first: u64, second: u64, sum: u64) -> bool
     ensures { IsTrue result ↔ Adds (lying first) (lying second) (lying sum) }
 {
-    u128::from(first / 16) + u128::from(second / 16) == u128::from(sum / 16)
+    first / 16 + second / 16 == sum / 16
         && first / 4 % 2 + second / 4 % 2 == sum / 4 % 2
         && first / 8 % 2 + second / 8 % 2 == sum / 8 % 2
         && first / 2 % 2 + second / 2 % 2 == sum / 2 % 2
