@@ -2,7 +2,7 @@
 ghost use Rattle.std.specs.Prelude.{◌≡◌, IfSome};
 
 use lock_api_raw::{
-    MakeCondvar, MakeLock, RawCondvarTimed, RawMutex as Raw, RawMutexFair, RawMutexTimed,
+    MakeCondvar, MakeLock, RawCondvarTimed, RawMutex as Raw, RawMutexFair, RawMutexTimed, TableFull,
 };
 use parking_lot_core::{ParkingLot, ThreadData};
 use parking_lot_mutex::condvar::RawCondvar;
@@ -27,7 +27,22 @@ struct Shared<'t, 'l, R> {
     mutex: RawMutex<'t, 'l, R>,
     changed: RawCondvar<'t, 'l, R>,
     sum: AtomicU64,
-    lot: &'l ParkingLot<R>,
+    table: &'t LockTable<'l, R>,
+}
+
+impl<'t, 'l, R> Shared<'t, 'l, R> {
+    /// On a table of which no row was handed out.
+    fn on(table: &'t LockTable<'l, R>) -> Result<Shared<'t, 'l, R>, TableFull>
+    where
+        R: Wait,
+    {
+        Ok(Shared {
+            mutex: RawMutex::new(table, 1)?,
+            changed: RawCondvar::new(table)?,
+            sum: AtomicU64::new(0),
+            table,
+        })
+    }
 }
 
 /// Adds 1 in two steps, so one of two that are inside is lost.
@@ -101,7 +116,7 @@ fn goes<'t, 'l, R: Wait + Clock>(
     round: usize,
     me: &mut ThreadData,
 ) -> u64 {
-    let clock = shared.lot.runtime();
+    let clock = shared.table.lot().runtime();
     match enter(&shared.mutex, clock, round, me) {
         Some(token) => {
             add(&shared.sum);
@@ -116,7 +131,7 @@ fn goes<'t, 'l, R: Wait + Clock>(
 
 /// All rounds of a thread.
 fn goes_on<'t, 'l, R: Wait + Clock>(shared: &Shared<'t, 'l, R>) -> u64 {
-    let Ok(mut me) = shared.lot.thread_data() else {
+    let Ok(mut me) = shared.table.lot().thread_data() else {
         return 0;
     };
     let mut inside = 0u64;
@@ -130,12 +145,7 @@ fn goes_on<'t, 'l, R: Wait + Clock>(shared: &Shared<'t, 'l, R>) -> u64 {
 fn a_mutex_excludes_by_whatever_call_it_is_taken(rt: HostRuntime) -> Result<(), Fail> {
     let lot = ParkingLot::new(rt, rt.alloc(), 4, 7)?;
     let table = LockTable::new(rt.alloc(), &lot, 2)?;
-    let shared = Shared {
-        mutex: RawMutex::new(&table, 1)?,
-        changed: RawCondvar::new(&table)?,
-        sum: AtomicU64::new(0),
-        lot: &lot,
-    };
+    let shared = Shared::on(&table)?;
     let two = || thread::join(&rt, || goes_on(&shared), || goes_on(&shared));
     let ((a, b), (c, d)) = thread::join(&rt, two, two);
     let inside = a.wrapping_add(b).wrapping_add(c).wrapping_add(d);
