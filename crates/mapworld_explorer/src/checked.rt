@@ -14,12 +14,13 @@ pub struct Broken {
     pub outcome: Option<usize>,
 }
 
-/// Whether the text has these words, in any case of their letters.
-fn is_text(found: &str, want: &[&str]) -> bool {
+/// Whether the text is these words; in any case of their letters, where that is said.
+pub(crate) fn is_text(found: &str, want: &[&str], any_case: bool) -> bool {
     let mut count: usize = 0;
     for word in found.split_whitespace() {
         match want.get(count) {
-            Some(wanted) if wanted.eq_ignore_ascii_case(word) => {}
+            Some(wanted) if *wanted == word => {}
+            Some(wanted) if any_case && wanted.eq_ignore_ascii_case(word) => {}
             _ => return false,
         }
         count = count.saturating_add(1);
@@ -30,9 +31,9 @@ fn is_text(found: &str, want: &[&str]) -> bool {
 /// Whether a part of a claim is so of an outcome.
 fn is_part(outcome: &Outcome, term: &Term<'_>) -> bool {
     match term.part {
-        Part::Contents => is_text(outcome.contents.as_str(), &term.want),
+        Part::Contents => is_text(outcome.contents.as_str(), &term.want, true),
         Part::Answer(thread, call) => match outcome.answer(thread, call) {
-            Some(text) => is_text(text, &term.want),
+            Some(text) => is_text(text, &term.want, true),
             None => false,
         },
     }

@@ -4,6 +4,7 @@
 
 use crate::explorer::{Explorer, Found, Two};
 use crate::worlds::{copy_of, programs_of, shard_of, world_of};
+use mapworld_text::Asked;
 use std::process::Abort;
 use std::test::Fail;
 
@@ -355,6 +356,52 @@ fn sum(found: Found, more: Found) -> Found {
     }
 }
 
+/// Makes all schedules of two programs.
+fn explore_two(
+    rt: &(impl AllocGlobal + Abort),
+    pairs: &[(u64, u64)],
+    first: &[Asked],
+    other: &[Asked],
+) -> Result<Found, Fail> {
+    let alloc = rt.alloc();
+    let programs = vec![in alloc; copy_of(alloc, first)?, copy_of(alloc, other)?]?;
+    let two = Two {
+        pairs,
+        programs: &programs,
+    };
+    Explorer::explore(rt, two)
+}
+
+/// Makes all schedules of a program with each of the others.
+fn explore_each(
+    rt: &(impl AllocGlobal + Abort),
+    pairs: &[(u64, u64)],
+    first: &[Asked],
+    others: &[Vec<Asked>],
+) -> Result<Found, Fail> {
+    let mut found = Found::NOTHING;
+    for other in others {
+        found = sum(found, explore_two(rt, pairs, first, other)?);
+    }
+    Ok(found)
+}
+
+/// Makes all schedules of each of the first programs with each of the others.
+fn explore_all(
+    rt: &(impl AllocGlobal + Abort),
+    pairs: &[(u64, u64)],
+    firsts: &str,
+    others: &str,
+) -> Result<Found, Fail> {
+    let firsts = programs_of(rt.alloc(), firsts)?;
+    let others = programs_of(rt.alloc(), others)?;
+    let mut found = Found::NOTHING;
+    for first in &firsts {
+        found = sum(found, explore_each(rt, pairs, first, &others)?);
+    }
+    Ok(found)
+}
+
 /// Makes all schedules of each of the first programs with each of the others, and prints how many states there are.
 /// Were there fewer than that number, different ones might have been taken for one.
 fn explore(
@@ -364,25 +411,11 @@ fn explore(
     others: &str,
     least: u64,
 ) -> Result<(), Fail> {
-    let alloc = rt.alloc();
-    let firsts = programs_of(alloc, firsts)?;
-    let others = programs_of(alloc, others)?;
-    let mut found = Found::NOTHING;
-    for first in &firsts {
-        for other in &others {
-            let programs = vec![in alloc; copy_of(alloc, first)?, copy_of(alloc, other)?]?;
-            let two = Two {
-                pairs,
-                programs: &programs,
-            };
-            found = sum(found, Explorer::explore(rt, two)?);
-        }
-    }
     let Found {
         states,
         ends,
         share,
-    } = found;
+    } = explore_all(rt, pairs, firsts, others)?;
     assert!(rt; states >= least && ends > 0, "{states} states, {ends} ends");
     println!(rt; "{states} states, {ends} ends, at most {share} thousandths of a bound")?;
     Ok(())

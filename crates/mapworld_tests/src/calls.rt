@@ -1,7 +1,7 @@
 //! What no clause says: that the definitions of the programs and of the hash are the ones meant, the printed text, and
 //! that blocks are compared by what they show.
 
-use super::worlds::{World, programs_of, step_times, world_of};
+use super::worlds::{World, step_times, world_by};
 use dashmap_table::{SpreadState, spread_hash};
 use mapworld_calls::past::Past;
 use mapworld_calls::{
@@ -68,15 +68,8 @@ fn keys_spread(rt: HostRuntime) {
     }
 }
 
-#[test]
-fn calls_are_shown(rt: HostRuntime) -> Result<(), Fail> {
-    let alloc = rt.alloc();
-    let shown = format!(in alloc;
-        "{INSERT:?} {REMOVE:?} {GET:?} {GET_MUT:?} {READ:?} {WRITE:?} {DROP:?}"
-    )?;
-    let want =
-        "Keyed(Insert(2, 3)) Keyed(Remove(1)) Begin(Get(1)) Begin(GetMut(1)) Held(Read(0)) Held(Write(0)) Held(Drop)";
-    assert!(rt; shown.as_str() == want);
+/// Whether a reply is shown with all that it has.
+fn is_reply_shown(alloc: Global) -> Result<bool, Fail> {
     let reply: Reply<u64, u64, u8, Global> = Reply {
         thread: 0,
         call: 1,
@@ -86,7 +79,17 @@ fn calls_are_shown(rt: HostRuntime) -> Result<(), Fail> {
     };
     let shown = format!(in alloc; "{reply:?}")?;
     let want = "Reply { thread: 0, call: 1, start: 2, end: 4, answer: Pair(1, 3) }";
-    assert!(rt; shown.as_str() == want);
+    Ok(shown.as_str() == want)
+}
+
+#[test]
+fn calls_are_shown(rt: HostRuntime) -> Result<(), Fail> {
+    let shown = format!(in rt.alloc();
+        "{INSERT:?} {REMOVE:?} {GET:?} {GET_MUT:?} {READ:?} {WRITE:?} {DROP:?}"
+    )?;
+    let want =
+        "Keyed(Insert(2, 3)) Keyed(Remove(1)) Begin(Get(1)) Begin(GetMut(1)) Held(Read(0)) Held(Write(0)) Held(Drop)";
+    assert!(rt; shown.as_str() == want && is_reply_shown(rt.alloc())?);
     Ok(())
 }
 
@@ -113,17 +116,20 @@ fn a_block_shows_six_fields(rt: HostRuntime) -> Result<(), Fail> {
     Ok(())
 }
 
+/// What a world shows behind three steps of its first thread: start, load and exchange, by which the shard is its own.
+fn shown_behind_three(alloc: Global, world: &mut World) -> Result<String, Fail> {
+    if step_times(world, 0, 3) {
+        Ok(format!(in alloc; "{world:?}")?)
+    } else {
+        Err(Fail::new("a step isn't made"))
+    }
+}
+
 #[test]
 fn a_world_shows_its_threads_words_and_pairs(rt: HostRuntime) -> Result<(), Fail> {
-    let programs = programs_of(
-        rt.alloc(),
-        "thread a\n  insert 1 10\nthread b\n  get 3\n    drop\n",
-    )?;
-    let made = world_of(rt.alloc(), 2, SpreadState, &[(3, 7)], &programs);
-    let mut world: World = made.ok_or("no world")?;
-    // Start, load and exchange: the shard is thread 0's.
-    assert!(rt; step_times(&mut world, 0, 3));
-    let shown = format!(in rt.alloc(); "{world:?}")?;
+    let text = "thread a\n  insert 1 10\nthread b\n  get 3\n    drop\n";
+    let mut world = world_by(rt.alloc(), 2, &[(3, 7)], text)?;
+    let shown = shown_behind_three(rt.alloc(), &mut world)?;
     let want = "MapWorld { steps: 3, threads: [Running, Running], words: [0, 8], pairs: {3: 7} }";
     assert!(rt; shown.as_str() == want, "{shown}");
     Ok(())

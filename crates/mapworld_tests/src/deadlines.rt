@@ -1,7 +1,6 @@
 //! Which deadlines are refused.
 
-use super::worlds::{World, programs_of, step_through, step_times, world_of};
-use dashmap_table::SpreadState;
+use super::worlds::{World, drain, make, step_through, step_times, world_by};
 use mapworld::{RunFault, Status, Step};
 use std::test::Fail;
 
@@ -19,54 +18,69 @@ fn refuses(world: &mut World, thread: usize) -> bool {
     let steps = world.steps();
     let status = world.status(thread);
     let word = world.word(1);
-    world.run(&[late(thread)]) == Err(RunFault::CannotMove(0))
+    make(world, late(thread)) == Err(RunFault::CannotMove(0))
         && world.steps() == steps
         && world.status(thread) == status
         && world.word(1) == word
 }
 
+/// Three threads: one that holds key 1, and two that are to wait for it, the last of them up to a deadline.
+const BESIDE_A_GUARD: &str =
+    "thread a\n  get-mut 1\n    drop\nthread b\n  insert 1 9\nthread c\n  insert-until 1 7\n";
+
+/// Makes start, load, exchange, find and answer of thread 0, by which it holds the shard, and steps the others until they
+/// sleep. Whether all steps were done, and no deadline came before: nobody has begun, or who has is awake.
+fn come_to_sleep(world: &mut World) -> bool {
+    let mut right = (0..3).all(|thread| refuses(world, thread));
+    right &= step_times(world, 0, 5) && step_times(world, 2, 1);
+    right &= refuses(world, 2) && step_through(world, 1) && step_through(world, 2);
+    right && world.status(1) == Status::Asleep && world.status(2) == Status::Asleep
+}
+
+/// Whether the last thread's deadline comes once, and lets it move.
+fn comes_once(world: &mut World) -> bool {
+    let was_asleep = !world.can_move(2);
+    let is_made = make(world, late(2)).is_ok();
+    was_asleep && is_made && world.can_move(2) && refuses(world, 2)
+}
+
+/// The rule that deadlines break in a world of these threads, if they break one.
+fn broken_by_deadlines(world: &mut World) -> Option<&'static str> {
+    if !come_to_sleep(world) {
+        Some("nobody who is awake has a deadline")
+    } else if !refuses(world, 1) {
+        Some("a plain call has no deadline")
+    } else if !comes_once(world) {
+        Some("a deadline comes once, and lets its thread move")
+    } else if !step_through(world, 2) || !refuses(world, 2) {
+        Some("a thread that has finished has no deadline")
+    } else if make(world, late(3)) != Err(RunFault::NoSuchThread(0)) {
+        Some("a thread that isn't there has no deadline")
+    } else {
+        None
+    }
+}
+
 #[test]
 fn only_a_sleeper_has_a_deadline(rt: HostRuntime) -> Result<(), Fail> {
-    let text =
-        "thread a\n  get-mut 1\n    drop\nthread b\n  insert 1 9\nthread c\n  insert-until 1 7\n";
-    let programs = programs_of(rt.alloc(), text)?;
-    let made = world_of(rt.alloc(), 2, SpreadState, &[(1, 5)], &programs);
-    let mut world: World = made.ok_or("no world")?;
-    // Nobody has begun: there is nothing to wait for.
-    assert!(rt; (0..3).all(|thread| refuses(&mut world, thread)));
-    // Start, load, exchange, find, answer: thread 0 holds the shard, and the others come to sleep.
-    assert!(rt; step_times(&mut world, 0, 5));
-    assert!(rt;
-        step_times(&mut world, 2, 1) && refuses(&mut world, 2),
-        "it is awake"
-    );
-    assert!(rt; step_through(&mut world, 1) && step_through(&mut world, 2));
-    assert!(rt;
-        world.status(1) == Status::Asleep && refuses(&mut world, 1),
-        "a plain call"
-    );
-    assert!(rt; world.status(2) == Status::Asleep && !world.can_move(2));
-    assert!(rt; world.run(&[late(2)]).is_ok() && world.can_move(2));
-    assert!(rt; refuses(&mut world, 2), "its deadline has come");
-    assert!(rt;
-        step_through(&mut world, 2) && refuses(&mut world, 2),
-        "it has finished"
-    );
-    assert!(rt; world.run(&[late(3)]) == Err(RunFault::NoSuchThread(0)));
+    let mut world = world_by(rt.alloc(), 2, &[(1, 5)], BESIDE_A_GUARD)?;
+    let broken = broken_by_deadlines(&mut world);
+    assert!(rt; broken.is_none(), "{broken:?}");
     Ok(())
+}
+
+/// Whether a thread waits for key 1 while another holds it, and a drain hands it the shard in time.
+fn is_handed_in_time(world: &mut World) -> bool {
+    let waits = step_times(world, 0, 5)
+        && step_through(world, 1)
+        && world.status(1) == Status::Asleep;
+    waits && drain(world) > 0 && world.pair(&1).is_none()
 }
 
 #[test]
 fn a_drain_makes_no_deadline(rt: HostRuntime) -> Result<(), Fail> {
     let text = "thread a\n  get-mut 1\n    drop\nthread b\n  remove-until 1\n";
-    let programs = programs_of(rt.alloc(), text)?;
-    let made = world_of(rt.alloc(), 2, SpreadState, &[(1, 5)], &programs);
-    let mut world: World = made.ok_or("no world")?;
-    assert!(rt; step_times(&mut world, 0, 5) && step_through(&mut world, 1));
-    assert!(rt; world.status(1) == Status::Asleep);
-    assert!(rt;
-        world.drain() > 0 && world.pair(&1).is_none(),
-        "it was handed the shard in time"
-    );
+    let mut world = world_by(rt.alloc(), 2, &[(1, 5)], text)?;
+    assert!(rt; is_handed_in_time(&mut world));
     Ok(())
 }

@@ -1,9 +1,9 @@
 //! Keys that are equal though they differ, and keys that share a hash.
 
-use super::worlds::{programs_of, step_round, told};
+use super::worlds::{World, programs_of, step_round, told, world_of};
 use mapworld::{Answer, Ask, Begin, Deed, Held, Keyed, MapWorld, SpreadState};
-use std::alloc::Global;
-use std::hash::{BuildHasher, Hasher};
+use std::alloc::{AllocError, Global};
+use std::hash::{BuildHasher, Hash, Hasher};
 use std::test::Fail;
 
 /// A letter that is compared without its case.
@@ -79,25 +79,48 @@ impl BuildHasher for OneHash {
     }
 }
 
-#[test]
-fn equal_keys_are_one_key(rt: HostRuntime) -> Result<(), Fail> {
-    let program = vec![in rt.alloc();
+/// A world of one thread with that program, on so many shards, that begins with these pairs.
+fn world_with<K: Eq + Hash + Drop, D: Deed<K, u64> + Drop>(
+    alloc: Global,
+    shards: usize,
+    pairs: Vec<(K, u64)>,
+    program: Vec<Ask<K, u64, D>>,
+) -> Result<MapWorld<K, u64, SpreadState, D>, Fail> {
+    let programs = vec![in alloc; program]?;
+    Ok(MapWorld::new(alloc, shards, SpreadState, pairs, programs)?)
+}
+
+/// A world of letters.
+type Letters = MapWorld<Letter, u64, SpreadState, ReadKey>;
+
+/// Calls on one letter in both cases.
+fn calls_on_one_letter(alloc: Global) -> Result<Vec<Ask<Letter, u64, ReadKey>>, AllocError> {
+    Ok(vec![in alloc;
         Ask::Keyed(Keyed::Insert(letter_of(b'K'), 2)),
         Ask::Begin(Begin::Get(letter_of(b'k'))),
         Ask::Held(Held::Read(ReadKey)),
         Ask::Held(Held::Drop),
         Ask::Keyed(Keyed::Remove(letter_of(b'k'))),
-    ]?;
-    let pairs = vec![in rt.alloc(); (letter_of(b'k'), 0), (letter_of(b'K'), 1)]?;
-    let programs = vec![in rt.alloc(); program]?;
-    let mut world = MapWorld::new(rt.alloc(), 2, SpreadState, pairs, programs)?;
-    let is_done = step_round(&mut world);
+    ]?)
+}
+
+/// Whether of equal keys the last value and the first key were there at the start, and the insertion left the stored
+/// key.
+fn found_one_letter(world: &Letters) -> bool {
     let answers = world.replies();
-    assert!(rt; is_done && answers.len() == 5);
-    // Of equal keys the last value and the first key were there at the start, and the insert left the stored key.
-    assert!(rt; answers[0].answer == Answer::Value(1));
-    assert!(rt; answers[2].answer == Answer::Read(b'k'));
-    assert!(rt; answers[4].answer == Answer::Pair(letter_of(b'k'), 2));
+    if answers.len() != 5 {
+        return false;
+    }
+    let is_first = answers[0].answer == Answer::Value(1) && answers[2].answer == Answer::Read(b'k');
+    is_first && answers[4].answer == Answer::Pair(letter_of(b'k'), 2)
+}
+
+#[test]
+fn equal_keys_are_one_key(rt: HostRuntime) -> Result<(), Fail> {
+    let pairs = vec![in rt.alloc(); (letter_of(b'k'), 0), (letter_of(b'K'), 1)]?;
+    let program = calls_on_one_letter(rt.alloc())?;
+    let mut world = world_with(rt.alloc(), 2, pairs, program)?;
+    assert!(rt; step_round(&mut world) && found_one_letter(&world));
     Ok(())
 }
 
@@ -111,9 +134,9 @@ fn shows_letter(answer: &Answer<Letter, u64, u8, Global>, shown: u8) -> bool {
     }
 }
 
-#[test]
-fn an_entry_keeps_the_key_that_it_was_handed(rt: HostRuntime) -> Result<(), Fail> {
-    let program = vec![in rt.alloc();
+/// Calls at the place of one letter, asked for in the other case.
+fn calls_at_one_letter(alloc: Global) -> Result<Vec<Ask<Letter, u64, ReadKey>>, AllocError> {
+    Ok(vec![in alloc;
         Ask::Begin(Begin::Entry(letter_of(b'K'))),
         Ask::Held(Held::Insert(2)),
         Ask::Held(Held::Read(ReadKey)),
@@ -123,37 +146,52 @@ fn an_entry_keeps_the_key_that_it_was_handed(rt: HostRuntime) -> Result<(), Fail
         Ask::Held(Held::ReplaceEntry(3)),
         Ask::Held(Held::Drop),
         Ask::Keyed(Keyed::Remove(letter_of(b'k'))),
-    ]?;
-    let pairs = vec![in rt.alloc(); (letter_of(b'k'), 0)]?;
-    let programs = vec![in rt.alloc(); program]?;
-    let mut world = MapWorld::new(rt.alloc(), 2, SpreadState, pairs, programs)?;
-    let is_done = step_round(&mut world);
+    ]?)
+}
+
+/// Whether the stored key stayed at an insertion, and the handed-in one was given back or put in its place.
+fn kept_the_letter(world: &Letters) -> bool {
     let answers = world.replies();
-    assert!(rt; is_done && answers.len() == 9);
-    // The stored key stays at an insertion, and the handed-in one is given back or put in its place.
-    assert!(rt; shows_letter(&answers[2].answer, b'k') && shows_letter(&answers[3].answer, b'K'));
-    assert!(rt; shows_letter(&answers[6].answer, b'k') && shows_letter(&answers[8].answer, b'K'));
-    assert!(rt; answers[6].answer == Answer::Pair(letter_of(b'k'), 2));
-    assert!(rt; answers[8].answer == Answer::Pair(letter_of(b'k'), 3));
+    if answers.len() != 9 {
+        return false;
+    }
+    let mut right = true;
+    for (call, letter) in [(2, b'k'), (3, b'K'), (6, b'k'), (8, b'K')] {
+        right &= shows_letter(&answers[call].answer, letter);
+    }
+    right &= answers[6].answer == Answer::Pair(letter_of(b'k'), 2);
+    right & (answers[8].answer == Answer::Pair(letter_of(b'k'), 3))
+}
+
+#[test]
+fn an_entry_keeps_the_key_that_it_was_handed(rt: HostRuntime) -> Result<(), Fail> {
+    let pairs = vec![in rt.alloc(); (letter_of(b'k'), 0)]?;
+    let program = calls_at_one_letter(rt.alloc())?;
+    let mut world = world_with(rt.alloc(), 2, pairs, program)?;
+    assert!(rt; step_round(&mut world) && kept_the_letter(&world));
     Ok(())
 }
+
+/// What the calls on keys of one hash are answered.
+const OF_ONE_HASH: &str = "value 5, none, pair 1=10, held, read 2=20, done, blocks 4; ";
 
 #[test]
 fn keys_of_one_hash_stay_apart(rt: HostRuntime) -> Result<(), Fail> {
     let text = "thread a\n  insert 1 10\n  insert 2 20\n  remove 1\n  get 2\n    read\n    drop\n";
     let programs = programs_of(rt.alloc(), text)?;
-    let pairs = vec![in rt.alloc(); (1, 5), (3, 30)]?;
-    let mut world = MapWorld::new(rt.alloc(), 4, OneHash, pairs, programs)?;
-    let is_done = step_round(&mut world);
+    let made = world_of(rt.alloc(), 4, OneHash, &[(1, 5), (3, 30)], &programs);
+    let mut world: World<OneHash> = made.ok_or("no world")?;
+    assert!(rt; step_round(&mut world) && has_two_and_three(&world));
     let text = told(rt.alloc(), &world)?;
-    let want = "value 5, none, pair 1=10, held, read 2=20, done, blocks 4; ";
-    assert!(rt; is_done && text.as_str() == want, "{text}");
-    assert!(rt;
-        world.pair(&1).is_none()
-            && world.pair(&2) == Some((&2, &20))
-            && world.pair(&3) == Some((&3, &30))
-    );
+    assert!(rt; text.as_str() == OF_ONE_HASH, "{text}");
     Ok(())
+}
+
+/// Whether key 1 is away, and keys 2 and 3 are there.
+fn has_two_and_three(world: &World<OneHash>) -> bool {
+    world.pair(&1).is_none()
+        && world.pair(&2) == Some((&2, &20))
+        && world.pair(&3) == Some((&3, &30))
 }
 
 /// A number with a label that doesn't count when two are compared.
@@ -193,60 +231,64 @@ impl<K> Deed<K, u64> for ReadNothing {
     }
 }
 
-#[test]
-fn there_is_one_unit(rt: HostRuntime) -> Result<(), Fail> {
-    let program: Vec<Ask<(), u64, ReadNothing>> = vec![in rt.alloc();
+/// Calls on the unit.
+fn calls_on_the_unit(alloc: Global) -> Result<Vec<Ask<(), u64, ReadNothing>>, AllocError> {
+    Ok(vec![in alloc;
         Ask::Keyed(Keyed::Insert((), 2)),
         Ask::Keyed(Keyed::Remove(())),
         Ask::Keyed(Keyed::Remove(())),
-    ]?;
-    let pairs = vec![in rt.alloc(); ((), 0), ((), 1)]?;
-    let programs = vec![in rt.alloc(); program]?;
-    let mut world = MapWorld::new(rt.alloc(), 4, SpreadState, pairs, programs)?;
-    let is_done = step_round(&mut world);
+    ]?)
+}
+
+/// Whether they found one pair.
+fn found_the_unit(world: &MapWorld<(), u64, SpreadState, ReadNothing>) -> bool {
     let answers = world.replies();
-    assert!(rt; is_done && answers.len() == 3);
-    assert!(rt; answers[0].answer == Answer::Value(1) && answers[1].answer == Answer::Pair((), 2));
-    assert!(rt; answers[2].answer == Answer::None);
+    answers.len() == 3
+        && answers[0].answer == Answer::Value(1)
+        && answers[1].answer == Answer::Pair((), 2)
+        && answers[2].answer == Answer::None
+}
+
+#[test]
+fn there_is_one_unit(rt: HostRuntime) -> Result<(), Fail> {
+    let pairs = vec![in rt.alloc(); ((), 0), ((), 1)]?;
+    let program = calls_on_the_unit(rt.alloc())?;
+    let mut world = world_with(rt.alloc(), 4, pairs, program)?;
+    assert!(rt; step_round(&mut world) && found_the_unit(&world));
     Ok(())
+}
+
+/// Number 1 with that label.
+fn one(label: u8) -> Labelled {
+    Labelled { number: 1, label }
+}
+
+/// Calls on number 1 under two labels.
+fn calls_on_one(alloc: Global) -> Result<Vec<Ask<Labelled, u64, ReadNothing>>, AllocError> {
+    Ok(vec![in alloc;
+        Ask::Keyed(Keyed::Insert(one(2), 5)),
+        Ask::Keyed(Keyed::Remove(one(3))),
+    ]?)
+}
+
+/// The value that was there, and the label of the pair of value 5 that was taken out.
+fn found_one(world: &MapWorld<Labelled, u64, SpreadState, ReadNothing>) -> Option<(bool, u8)> {
+    let answers = world.replies();
+    if answers.len() != 2 {
+        return None;
+    }
+    let is_set = answers[0].answer == Answer::Value(4);
+    match &answers[1].answer {
+        Answer::Pair(key, 5) => Some((is_set, key.label)),
+        _ => None,
+    }
 }
 
 #[test]
 fn keys_are_compared_by_one_field(rt: HostRuntime) -> Result<(), Fail> {
-    let program: Vec<Ask<Labelled, u64, ReadNothing>> = vec![in rt.alloc();
-        Ask::Keyed(Keyed::Insert(
-            Labelled {
-                number: 1,
-                label: 2
-            },
-            5
-        )),
-        Ask::Keyed(Keyed::Remove(Labelled {
-            number: 1,
-            label: 3
-        })),
-    ]?;
-    let pairs = vec![in rt.alloc();
-        (
-            Labelled {
-                number: 1,
-                label: 1
-            },
-            4
-        ),
-    ]?;
-    let programs = vec![in rt.alloc(); program]?;
-    let mut world = MapWorld::new(rt.alloc(), 2, SpreadState, pairs, programs)?;
-    let is_done = step_round(&mut world);
-    let answers = world.replies();
-    let mut stored = 0;
-    let mut is_set = false;
-    if answers.len() == 2 {
-        is_set = answers[0].answer == Answer::Value(4);
-        if let Answer::Pair(key, 5) = &answers[1].answer {
-            stored = key.label;
-        }
-    }
-    assert!(rt; is_done && is_set && stored == 1);
+    let pairs = vec![in rt.alloc(); (one(1), 4)]?;
+    let program = calls_on_one(rt.alloc())?;
+    let mut world = world_with(rt.alloc(), 2, pairs, program)?;
+    assert!(rt; step_round(&mut world) && found_one(&world) == Some((true, 1)));
     Ok(())
 }

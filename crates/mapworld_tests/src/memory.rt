@@ -2,12 +2,14 @@
 //! each growth is refused once. The program `growths` refuses single growths.
 
 use super::judged::{at_first, broken};
-use super::worlds::{World, are_finished, programs_of, step_through, step_times, world_of};
+use super::worlds::{
+    World, are_finished, drain, programs_of, step_through, step_times, world_by, world_of,
+};
 use dashmap_table::SpreadState;
 use linked_list_allocator::LocalHeap;
-use mapworld::{Answer, Ask, Keyed, Walk};
+use mapworld::Answer;
 use mapworld_oracle::replay::{Broken, Made};
-use mapworld_text::{Asked, Change};
+use mapworld_text::Change;
 use std::alloc::{AllocError, Global};
 use std::process::Abort;
 use std::test::Fail;
@@ -20,6 +22,21 @@ const SIZE: usize = 16384;
 /// More keys than the programs use.
 const KEYS: u64 = 40;
 
+/// Takes pieces of that size, as many as there are.
+fn take<'h>(
+    heap: &'h LocalHeap,
+    size: usize,
+    pieces: &mut Vec<Vec<u8, &'h LocalHeap>>,
+) -> Result<(), AllocError> {
+    for _ in 0..SIZE {
+        match Vec::with_capacity(heap, size) {
+            Ok(piece) => pieces.push(piece)?,
+            Err(_) => break,
+        }
+    }
+    Ok(())
+}
+
 /// Takes all memory that is left, in pieces.
 fn hoard<'h>(
     alloc: Global,
@@ -27,12 +44,7 @@ fn hoard<'h>(
 ) -> Result<Vec<Vec<u8, &'h LocalHeap>>, AllocError> {
     let mut pieces = Vec::new(alloc);
     for size in [4096, 1024, 256, 64, 16] {
-        for _ in 0..SIZE {
-            match Vec::with_capacity(heap, size) {
-                Ok(piece) => pieces.push(piece)?,
-                Err(_) => break,
-            }
-        }
+        take(heap, size, &mut pieces)?;
     }
     Ok(pieces)
 }
@@ -54,36 +66,46 @@ fn count_of(world: &World) -> usize {
     count
 }
 
+/// A program that puts in so many keys, which are even and so all on one shard.
+fn insertions(alloc: Global, keys: u64) -> Result<String, AllocError> {
+    let mut text = String::from_str(alloc, "thread a\n")?;
+    for number in 0..keys {
+        write!(text, "  insert {} {number}\n", number << 1)?;
+    }
+    Ok(text)
+}
+
+/// Whether a world puts 3000 pairs in by its one thread.
+fn grows(world: &mut World) -> bool {
+    step_through(world, 0)
+        && are_finished(world)
+        && are_added(world)
+        && count_of(world) == 3000
+        && world.pair(&5998) == Some((&5998, &2999))
+}
+
 #[test]
 fn a_shard_grows_to_thousands_of_pairs(rt: HostRuntime) -> Result<(), Fail> {
-    let mut program: Vec<Asked> = Vec::new(rt.alloc());
-    for number in 0..3000_u64 {
-        // Even keys are all on one shard.
-        program.push(Ask::Keyed(Keyed::Insert(number << 1, number)))?;
-    }
-    let mut programs = Vec::new(rt.alloc());
-    programs.push(program)?;
-    let made = world_of(rt.alloc(), 2, SpreadState, &[], &programs);
-    let mut world: World = made.ok_or("no world")?;
-    assert!(rt; step_through(&mut world, 0) && are_finished(&world));
-    assert!(rt; are_added(&world) && count_of(&world) == 3000);
-    assert!(rt; world.pair(&5998) == Some((&5998, &2999)));
+    let text = insertions(rt.alloc(), 3000)?;
+    let mut world = world_by(rt.alloc(), 2, &[], text.as_str())?;
+    assert!(rt; grows(&mut world));
     Ok(())
+}
+
+/// Whether a world makes all its walks, and shows no visit.
+fn walks_without_visits(world: &mut Small<'_>) -> bool {
+    step_through(world, 0) && are_finished(world) && world.blocks().is_empty()
 }
 
 #[test]
 fn walks_with_the_stop_0_take_no_room_for_visits(rt: HostRuntime) -> Result<(), Fail> {
-    let mut program: Vec<Asked> = Vec::new(rt.alloc());
-    for _ in 0..1000 {
-        program.push(Ask::Walk(Walk::Iter(Change::NONE, Some(0))))?;
-    }
-    let mut programs = Vec::new(rt.alloc());
-    programs.push(program)?;
+    let programs = programs_of(rt.alloc(), "thread a\n  iter stop 0\nagain 999\n")?;
     // A block for each visit of 64 shards would take seven times as much.
     let heap = LocalHeap::new(rt.alloc(), 500_000)?;
-    let mut world = world_of(&heap, 64, SpreadState, &[], &programs).ok_or("no world")?;
-    let is_done = step_through(&mut world, 0);
-    assert!(rt; is_done && are_finished(&world) && world.blocks().is_empty());
+    match world_of(&heap, 64, SpreadState, &[], &programs) {
+        Some(mut world) => assert!(rt; walks_without_visits(&mut world)),
+        None => return Err(Fail::new("no world")),
+    }
     Ok(())
 }
 
@@ -145,12 +167,12 @@ fn run_without(
     let done = match when {
         When::Step(_) => step_next(world, last),
         When::Drain(_) => {
-            let _ = world.drain();
+            let _ = drain(world);
             last.is_some()
         }
     };
     drop(pieces);
-    let _ = world.drain();
+    let _ = drain(world);
     Ok(done)
 }
 

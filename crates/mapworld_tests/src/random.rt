@@ -3,7 +3,7 @@
 
 use super::judged::{broken, shown_now};
 use super::programs::{KEYS, KINDS, Random, Shape, pairs, programs};
-use super::worlds::{World, world_of};
+use super::worlds::{World, drain, make, world_of};
 use dashmap_table::SpreadState;
 use mapworld::{Answer, Step};
 use mapworld_oracle::judge::Halfway;
@@ -98,7 +98,7 @@ fn run_some<S: BuildHasher>(
                 fair,
                 deadline,
             };
-            if world.run(&[step]).is_err() {
+            if make(world, step).is_err() {
                 return Ok(Some("a step of a thread that can move, or a deadline, is made"));
             }
             made.push(step)?;
@@ -119,15 +119,49 @@ fn drained<S: BuildHasher>(
 ) -> Result<Broken, AllocError> {
     let bound = world.bound();
     let before = world.steps();
-    let steps = world.drain();
+    let steps = drain(world);
     if steps > bound || world.steps() != before.wrapping_add(steps) {
         return Ok(Some("a drain takes no more steps than the bound"));
     }
-    if world.drain() != 0 {
+    if drain(world) != 0 {
         return Ok(Some("behind a drain there is nothing left to do"));
     }
     tally.add(world, steps, bound);
     broken(made, world, KEYS, moment)
+}
+
+/// The threads that made these steps, and their deadlines.
+fn schedule_of(
+    alloc: Global,
+    steps: &[Step],
+) -> Result<(Vec<usize>, Vec<(usize, u64)>), AllocError> {
+    let mut schedule = Vec::new(alloc);
+    let mut deadlines = Vec::new(alloc);
+    for (i, step) in steps.iter().enumerate() {
+        schedule.push(step.thread)?;
+        if step.deadline {
+            deadlines.push((step.thread, (i as u64).saturating_add(1)))?;
+        }
+    }
+    Ok((schedule, deadlines))
+}
+
+/// Runs a world to a random moment, and gives what it shows then, or the rule that is broken.
+fn moment_of<S: BuildHasher>(
+    alloc: Global,
+    world: &mut World<S>,
+    random: &mut Random,
+    run: Run,
+) -> Result<Result<Halfway, &'static str>, AllocError> {
+    let mut steps = Vec::new(alloc);
+    if let Some(rule) = run_some(world, random, run, &mut steps)? {
+        return Ok(Err(rule));
+    }
+    let (schedule, deadlines) = schedule_of(alloc, &steps)?;
+    match shown_now(alloc, world, schedule, deadlines)? {
+        Some(moment) => Ok(Ok(moment)),
+        None => Ok(Err("a block shows its end exactly where its call is answered")),
+    }
 }
 
 /// Makes a world, runs it to a random moment and drains it; and gives the rule that is broken, if one is.
@@ -138,26 +172,12 @@ fn broken_on<S: BuildHasher + Drop>(
     run: Run,
     tally: &mut Tally,
 ) -> Result<Broken, AllocError> {
-    let Some(mut world) = world_of(made.alloc, made.shards, hasher, made.pairs, made.programs)
-    else {
-        return Ok(Some("a world is made"));
-    };
-    let mut steps = Vec::new(made.alloc);
-    let by_steps = run_some(&mut world, random, run, &mut steps)?;
-    if by_steps.is_some() {
-        return Ok(by_steps);
-    }
-    let mut schedule = Vec::new(made.alloc);
-    let mut deadlines = Vec::new(made.alloc);
-    for (i, step) in steps.iter().enumerate() {
-        schedule.push(step.thread)?;
-        if step.deadline {
-            deadlines.push((step.thread, (i as u64).saturating_add(1)))?;
-        }
-    }
-    match shown_now(made.alloc, &world, schedule, deadlines)? {
-        Some(moment) => drained(made, &mut world, &moment, tally),
-        None => Ok(Some("a block shows its end exactly where its call is answered")),
+    match world_of(made.alloc, made.shards, hasher, made.pairs, made.programs) {
+        Some(mut world) => match moment_of(made.alloc, &mut world, random, run)? {
+            Ok(moment) => drained(made, &mut world, &moment, tally),
+            Err(rule) => Ok(Some(rule)),
+        },
+        None => Ok(Some("a world is made")),
     }
 }
 

@@ -1,36 +1,43 @@
 //! Worlds of the largest sizes, and one of another hasher.
 
-use super::worlds::{World, are_finished, programs_of, step_round, told, world_of};
-use dashmap_table::SpreadState;
-use mapworld::{Ask, Begin, Held, Keyed};
-use mapworld_text::{Asked, Change};
+use super::worlds::{World, are_finished, programs_of, step_round, told, world_by, world_of};
 use std::alloc::{AllocError, Global};
-use std::hash::{BuildHasherDefault, FoldHasher};
+use std::hash::{BuildHasher, BuildHasherDefault, FoldHasher};
 use std::test::Fail;
 
-/// A program that inserts a key as its own value, and reads it by a guard.
-fn inserts_and_reads(alloc: Global, key: u64) -> Result<Vec<Asked>, AllocError> {
-    let program = vec![in alloc;
-        Ask::Keyed(Keyed::Insert(key, key)),
-        Ask::Begin(Begin::Get(key)),
-        Ask::Held(Held::Read(Change::NONE)),
-        Ask::Held(Held::Drop),
-    ]?;
-    Ok(program)
+/// So many threads, each of which inserts a key as its own value, and reads it by a guard.
+fn programs_of_each(alloc: Global, keys: u64) -> Result<String, AllocError> {
+    let mut text = String::new(alloc);
+    for key in 0..keys {
+        write!(
+            text,
+            "thread t{key}\n  insert {key} {key}\n  get {key}\n    read\n    drop\n"
+        )?;
+    }
+    Ok(text)
+}
+
+/// What they are answered.
+fn answers_of_each(alloc: Global, keys: u64) -> Result<String, AllocError> {
+    let mut want = String::new(alloc);
+    for key in 0..keys {
+        write!(want, "none, held, read {key}={key}, done, blocks 2; ")?;
+    }
+    Ok(want)
+}
+
+/// Whether the calls of a world, run to its end, are answered so.
+fn ends_with(alloc: Global, world: &mut World, want: &str) -> Result<bool, Fail> {
+    let is_done = step_round(world) && are_finished(world);
+    Ok(is_done && told(alloc, world)?.as_str() == want)
 }
 
 #[test]
 fn a_world_of_256_threads_runs_to_its_end(rt: HostRuntime) -> Result<(), Fail> {
-    let mut programs = Vec::new(rt.alloc());
-    let mut want = String::new(rt.alloc());
-    for key in 0..256 {
-        programs.push(inserts_and_reads(rt.alloc(), key)?)?;
-        write!(want, "none, held, read {key}={key}, done, blocks 2; ")?;
-    }
-    let made = world_of(rt.alloc(), 2, SpreadState, &[], &programs);
-    let mut world: World = made.ok_or("no world")?;
-    assert!(rt; step_round(&mut world) && are_finished(&world));
-    assert!(rt; told(rt.alloc(), &world)?.as_str() == want.as_str());
+    let text = programs_of_each(rt.alloc(), 256)?;
+    let want = answers_of_each(rt.alloc(), 256)?;
+    let mut world = world_by(rt.alloc(), 2, &[], text.as_str())?;
+    assert!(rt; ends_with(rt.alloc(), &mut world, want.as_str())?);
     Ok(())
 }
 
@@ -43,20 +50,29 @@ fn same(alloc: Global, keys: u64) -> Result<Vec<(u64, u64)>, AllocError> {
     Ok(pairs)
 }
 
+/// What its calls are answered in the world of the most shards.
+const OF_4096: &str = "pair 0=0, value 255, blocks 2; held, read 7=7, done, blocks 1; ";
+
+/// Whether a world has 255 pairs, without key 0 and with 1 at key 255.
+fn has_lost_one(world: &World) -> Result<bool, Fail> {
+    let count = world.contents()?.len();
+    Ok(count == 255 && world.pair(&255) == Some((&255, &1)) && world.pair(&0).is_none())
+}
+
 #[test]
 fn a_world_of_4096_shards_runs_to_its_end(rt: HostRuntime) -> Result<(), Fail> {
     let text = "thread a\n  remove 0\n  insert 255 1\nthread b\n  get 7\n    read\n    drop\n";
-    let programs = programs_of(rt.alloc(), text)?;
     let pairs = same(rt.alloc(), 256)?;
-    let made = world_of(rt.alloc(), 4096, SpreadState, &pairs, &programs);
-    let mut world: World = made.ok_or("no world")?;
-    let is_done = step_round(&mut world) && are_finished(&world);
-    let text = told(rt.alloc(), &world)?;
-    let want = "pair 0=0, value 255, blocks 2; held, read 7=7, done, blocks 1; ";
-    assert!(rt; is_done && text.as_str() == want, "{text}");
-    let count = world.contents()?.len();
-    assert!(rt; count == 255 && world.pair(&255) == Some((&255, &1)) && world.pair(&0).is_none());
+    let mut world = world_by(rt.alloc(), 4096, &pairs, text)?;
+    assert!(rt; ends_with(rt.alloc(), &mut world, OF_4096)? && has_lost_one(&world)?);
     Ok(())
+}
+
+/// Whether a world finds each of these pairs by its key.
+fn finds_all<S: BuildHasher>(world: &World<S>, pairs: &[(u64, u64)]) -> bool {
+    pairs
+        .iter()
+        .all(|pair| world.pair(&pair.0) == Some((&pair.0, &pair.1)))
 }
 
 #[test]
@@ -66,9 +82,6 @@ fn a_key_has_one_shard(rt: HostRuntime) -> Result<(), Fail> {
     let hasher: BuildHasherDefault<FoldHasher> = BuildHasherDefault::new();
     let made = world_of(rt.alloc(), 16, hasher, &pairs, &programs);
     let world = made.ok_or("no world")?;
-    let are_found = pairs
-        .iter()
-        .all(|pair| world.pair(&pair.0) == Some((&pair.0, &pair.1)));
-    assert!(rt; are_found);
+    assert!(rt; finds_all(&world, &pairs));
     Ok(())
 }

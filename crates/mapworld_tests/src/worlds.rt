@@ -1,7 +1,7 @@
 //! Worlds of numbers for the other tests, and how they are stepped.
 
 use dashmap_table::SpreadState;
-use mapworld::{Deed, MapWorld, Status, Step};
+use mapworld::{Deed, MapWorld, RunFault, Status, Step};
 use mapworld_text::{Asked, Case, Change, Shown, read};
 use std::alloc::{AllocError, Allocator, Global};
 use std::hash::{BuildHasher, Hash};
@@ -59,6 +59,37 @@ pub fn world_of<S: BuildHasher + Drop, A: Allocator + Copy + Drop>(
     MapWorld::new(alloc, shards, hasher, pairs, asked).ok()
 }
 
+/// A world of the programs of a text, of so many shards, that begins with these pairs.
+pub fn world_by(
+    alloc: Global,
+    shards: usize,
+    pairs: &[(u64, u64)],
+    text: &str,
+) -> Result<World, Fail> {
+    let programs = programs_of(alloc, text)?;
+    match world_of(alloc, shards, SpreadState, pairs, &programs) {
+        Some(world) => Ok(world),
+        None => Err(Fail::new("no world")),
+    }
+}
+
+/// Makes a step, or says why it can't be made. Tests step a world by this alone, so that what `run` promises is looked at
+/// once.
+pub fn make<
+    K: Eq + Hash + Drop,
+    V: Drop,
+    S: BuildHasher,
+    D: Deed<K, V> + Drop,
+    A: Allocator + Clone,
+>(world: &mut MapWorld<K, V, S, D, A>, step: Step) -> Result<(), RunFault> {
+    world.run(&[step])
+}
+
+/// Drains a world, by so many steps.
+pub fn drain<S: BuildHasher, A: Allocator + Clone + Drop>(world: &mut World<S, A>) -> u64 {
+    world.drain()
+}
+
 /// Makes as many steps of the thread, and says whether all of them were done.
 pub fn step_times<
     K: Eq + Hash + Drop,
@@ -67,15 +98,14 @@ pub fn step_times<
     D: Deed<K, V> + Drop,
     A: Allocator + Clone,
 >(world: &mut MapWorld<K, V, S, D, A>, thread: usize, times: usize) -> bool {
+    let step = Step {
+        thread,
+        fair: false,
+        deadline: false,
+    };
     let mut done = true;
     for _ in 0..times {
-        done &= world
-            .run(&[Step {
-                thread,
-                fair: false,
-                deadline: false,
-            }])
-            .is_ok();
+        done &= make(world, step).is_ok();
     }
     done
 }
@@ -98,6 +128,25 @@ pub fn step_through<
     done
 }
 
+/// Steps each thread once in turn, if it can move; says whether one could, and whether all of these steps were done.
+fn step_each<
+    K: Eq + Hash + Drop,
+    V: Drop,
+    S: BuildHasher,
+    D: Deed<K, V> + Drop,
+    A: Allocator + Clone,
+>(world: &mut MapWorld<K, V, S, D, A>) -> (bool, bool) {
+    let mut moved = false;
+    let mut done = true;
+    for thread in 0..world.threads() {
+        if world.can_move(thread) {
+            done &= step_times(world, thread, 1);
+            moved = true;
+        }
+    }
+    (moved, done)
+}
+
 /// Steps the threads in turn, each once if it can move, until none can; and says whether all steps were done.
 pub fn step_round<
     K: Eq + Hash + Drop,
@@ -106,20 +155,15 @@ pub fn step_round<
     D: Deed<K, V> + Drop,
     A: Allocator + Clone,
 >(world: &mut MapWorld<K, V, S, D, A>) -> bool {
-    let mut done = true;
+    let mut all_done = true;
     for _ in 0..world.bound() {
-        let mut moved = false;
-        for thread in 0..world.threads() {
-            if world.can_move(thread) {
-                done &= step_times(world, thread, 1);
-                moved = true;
-            }
-        }
+        let (moved, done) = step_each(world);
         if !moved {
             break;
         }
+        all_done &= done;
     }
-    done
+    all_done
 }
 
 /// Whether each thread is at its end.
