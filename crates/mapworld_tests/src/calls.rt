@@ -1,7 +1,7 @@
 //! What no clause says: that the definitions of the programs and of the hash are the ones meant, the printed text, and
 //! that blocks are compared by what they show.
 
-use super::worlds::{World, step_times, world_by};
+use super::worlds::{Look, Numbers, looked_at, step_times};
 use dashmap_table::{SpreadState, spread_hash};
 use mapworld_calls::past::Past;
 use mapworld_calls::{
@@ -28,22 +28,24 @@ const INSERT: Call = Ask::Keyed(Keyed::Insert(2, 3));
 
 const REMOVE: Call = Ask::Keyed(Keyed::Remove(1));
 
+/// Programs, and whether they hold one guard at a time and none at the end.
+const PROGRAMS: &[(&[Call], bool)] = &[
+    (&[], true),
+    (&[READ, DROP], true),
+    (&[GET, READ, DROP], true),
+    (&[GET, READ, READ, DROP, REMOVE], true),
+    (&[GET_MUT, WRITE, READ, DROP], true),
+    (&[GET], false),
+    (&[GET_MUT, WRITE], false),
+    (&[GET, READ], false),
+    (&[GET, GET, DROP], false),
+    (&[GET, INSERT, DROP], false),
+];
+
 #[test]
 fn a_program_holds_one_guard(rt: HostRuntime) {
-    let table: [(&[Call], bool); 10] = [
-        (&[], true),
-        (&[READ, DROP], true),
-        (&[GET, READ, DROP], true),
-        (&[GET, READ, READ, DROP, REMOVE], true),
-        (&[GET_MUT, WRITE, READ, DROP], true),
-        (&[GET], false),
-        (&[GET_MUT, WRITE], false),
-        (&[GET, READ], false),
-        (&[GET, GET, DROP], false),
-        (&[GET, INSERT, DROP], false),
-    ];
-    for (i, (program, want)) in table.into_iter().enumerate() {
-        assert!(rt; holds_one_guard(program) == want, "program {i}");
+    for (i, (program, want)) in PROGRAMS.iter().enumerate() {
+        assert!(rt; holds_one_guard(program) == *want, "program {i}");
     }
 }
 
@@ -52,19 +54,21 @@ fn a_program_takes_guard_numbers(rt: HostRuntime) {
     assert!(rt; guard_numbers(&[INSERT, GET, READ, DROP], 2) == 2);
 }
 
+/// Keys and their hashes.
+const SPREAD: &[(u64, u64)] = &[
+    (0, 0),
+    (1, 0x0100_0000_0000_0000),
+    (2, 0x0200_0000_0000_0000),
+    (3, 0x0300_0000_0000_0000),
+    (256, 0),
+    (257, 0x0100_0000_0000_0000),
+];
+
 #[test]
 fn keys_spread(rt: HostRuntime) {
-    let table = [
-        (0, 0),
-        (1, 0x0100_0000_0000_0000),
-        (2, 0x0200_0000_0000_0000),
-        (3, 0x0300_0000_0000_0000),
-        (256, 0),
-        (257, 0x0100_0000_0000_0000),
-    ];
-    for (key, want) in table {
-        assert!(rt; SpreadState.hash_one(key) == want, "key {key}");
-        assert!(rt; spread_hash(key) == want, "key {key}");
+    for (key, want) in SPREAD {
+        let is_so = SpreadState.hash_one(*key) == *want && spread_hash(*key) == *want;
+        assert!(rt; is_so, "key {key}");
     }
 }
 
@@ -116,20 +120,27 @@ fn a_block_shows_six_fields(rt: HostRuntime) -> Result<(), Fail> {
     Ok(())
 }
 
-/// What a world shows behind three steps of its first thread: start, load and exchange, by which the shard is its own.
-fn shown_behind_three(alloc: Global, world: &mut World) -> Result<String, Fail> {
-    if step_times(world, 0, 3) {
-        Ok(format!(in alloc; "{world:?}")?)
-    } else {
-        Err(Fail::new("a step isn't made"))
+/// Looks at what a world shows behind three steps of its first thread: start, load and exchange, by which the shard is
+/// its own.
+#[derive(Drop)]
+struct ThreeSteps;
+
+impl Look for ThreeSteps {
+    type Seen = String;
+
+    fn look<W: Numbers>(self, alloc: Global, world: &mut W) -> Result<String, Fail> {
+        if step_times(world, 0, 3) {
+            Ok(format!(in alloc; "{world:?}")?)
+        } else {
+            Err(Fail::new("a step isn't made"))
+        }
     }
 }
 
 #[test]
 fn a_world_shows_its_threads_words_and_pairs(rt: HostRuntime) -> Result<(), Fail> {
     let text = "thread a\n  insert 1 10\nthread b\n  get 3\n    drop\n";
-    let mut world = world_by(rt.alloc(), 2, &[(3, 7)], text)?;
-    let shown = shown_behind_three(rt.alloc(), &mut world)?;
+    let shown = looked_at(rt.alloc(), 2, &[(3, 7)], text, ThreeSteps)?;
     let want = "MapWorld { steps: 3, threads: [Running, Running], words: [0, 8], pairs: {3: 7} }";
     assert!(rt; shown.as_str() == want, "{shown}");
     Ok(())

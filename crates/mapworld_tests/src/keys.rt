@@ -1,7 +1,7 @@
 //! Keys that are equal though they differ, and keys that share a hash.
 
-use super::worlds::{World, programs_of, step_round, told, world_of};
-use mapworld::{Answer, Ask, Begin, Deed, Held, Keyed, MapWorld, SpreadState};
+use super::worlds::{Look, Numbers, looked_by, step_round};
+use mapworld::{Answer, Ask, Begin, Deed, Held, Keyed, MapWorld, Reply, SpreadState};
 use std::alloc::{AllocError, Global};
 use std::hash::{BuildHasher, Hash, Hasher};
 use std::test::Fail;
@@ -79,48 +79,68 @@ impl BuildHasher for OneHash {
     }
 }
 
-/// A world of one thread with that program, on so many shards, that begins with these pairs.
-fn world_with<K: Eq + Hash + Drop, D: Deed<K, u64> + Drop>(
-    alloc: Global,
-    shards: usize,
-    pairs: Vec<(K, u64)>,
-    program: Vec<Ask<K, u64, D>>,
-) -> Result<MapWorld<K, u64, SpreadState, D>, Fail> {
-    let programs = vec![in alloc; program]?;
-    Ok(MapWorld::new(alloc, shards, SpreadState, pairs, programs)?)
+/// One thread that calls keys of a type, each pair with a number.
+trait Story {
+    type Key: Eq + Hash + Drop;
+
+    type Deed: Deed<Self::Key, u64> + Drop;
+
+    /// The pairs that are there at the start.
+    fn pairs(alloc: Global) -> Result<Vec<(Self::Key, u64)>, AllocError>;
+
+    fn program(alloc: Global) -> Result<Vec<Ask<Self::Key, u64, Self::Deed>>, AllocError>;
+
+    /// Whether its calls are answered as they are to be.
+    fn is_so(
+        replies: &[Reply<Self::Key, u64, <Self::Deed as Deed<Self::Key, u64>>::Answer, Global>],
+    ) -> bool;
 }
 
-/// A world of letters.
-type Letters = MapWorld<Letter, u64, SpreadState, ReadKey>;
-
-/// Calls on one letter in both cases.
-fn calls_on_one_letter(alloc: Global) -> Result<Vec<Ask<Letter, u64, ReadKey>>, AllocError> {
-    Ok(vec![in alloc;
-        Ask::Keyed(Keyed::Insert(letter_of(b'K'), 2)),
-        Ask::Begin(Begin::Get(letter_of(b'k'))),
-        Ask::Held(Held::Read(ReadKey)),
-        Ask::Held(Held::Drop),
-        Ask::Keyed(Keyed::Remove(letter_of(b'k'))),
-    ]?)
+/// Makes a world of a story, on so many shards, and runs it; says whether it comes as it is told.
+fn comes_true<T: Story>(alloc: Global, shards: usize) -> Result<bool, Fail> {
+    let programs = vec![in alloc; T::program(alloc)?]?;
+    let mut world = MapWorld::new(alloc, shards, SpreadState, T::pairs(alloc)?, programs)?;
+    Ok(step_round(&mut world) && T::is_so(world.replies()))
 }
 
-/// Whether of equal keys the last value and the first key were there at the start, and the insertion left the stored
-/// key.
-fn found_one_letter(world: &Letters) -> bool {
-    let answers = world.replies();
-    if answers.len() != 5 {
-        return false;
+/// Calls on one letter in both cases. Of equal keys the last value and the first key are there at the start, and an
+/// insertion leaves the stored key.
+struct OneLetter;
+
+impl Story for OneLetter {
+    type Key = Letter;
+
+    type Deed = ReadKey;
+
+    fn pairs(alloc: Global) -> Result<Vec<(Letter, u64)>, AllocError> {
+        Ok(vec![in alloc; (letter_of(b'k'), 0), (letter_of(b'K'), 1)]?)
     }
-    let is_first = answers[0].answer == Answer::Value(1) && answers[2].answer == Answer::Read(b'k');
-    is_first && answers[4].answer == Answer::Pair(letter_of(b'k'), 2)
+
+    fn program(alloc: Global) -> Result<Vec<Ask<Letter, u64, ReadKey>>, AllocError> {
+        Ok(vec![in alloc;
+            Ask::Keyed(Keyed::Insert(letter_of(b'K'), 2)),
+            Ask::Begin(Begin::Get(letter_of(b'k'))),
+            Ask::Held(Held::Read(ReadKey)),
+            Ask::Held(Held::Drop),
+            Ask::Keyed(Keyed::Remove(letter_of(b'k'))),
+        ]?)
+    }
+
+    fn is_so(replies: &[Reply<Letter, u64, u8, Global>]) -> bool {
+        match replies {
+            [first, _, read, _, last] => {
+                first.answer == Answer::Value(1)
+                    && read.answer == Answer::Read(b'k')
+                    && last.answer == Answer::Pair(letter_of(b'k'), 2)
+            }
+            _ => false,
+        }
+    }
 }
 
 #[test]
 fn equal_keys_are_one_key(rt: HostRuntime) -> Result<(), Fail> {
-    let pairs = vec![in rt.alloc(); (letter_of(b'k'), 0), (letter_of(b'K'), 1)]?;
-    let program = calls_on_one_letter(rt.alloc())?;
-    let mut world = world_with(rt.alloc(), 2, pairs, program)?;
-    assert!(rt; step_round(&mut world) && found_one_letter(&world));
+    assert!(rt; comes_true::<OneLetter>(rt.alloc(), 2)?);
     Ok(())
 }
 
@@ -134,64 +154,79 @@ fn shows_letter(answer: &Answer<Letter, u64, u8, Global>, shown: u8) -> bool {
     }
 }
 
-/// Calls at the place of one letter, asked for in the other case.
-fn calls_at_one_letter(alloc: Global) -> Result<Vec<Ask<Letter, u64, ReadKey>>, AllocError> {
-    Ok(vec![in alloc;
-        Ask::Begin(Begin::Entry(letter_of(b'K'))),
-        Ask::Held(Held::Insert(2)),
-        Ask::Held(Held::Read(ReadKey)),
-        Ask::Held(Held::IntoKey),
-        Ask::Held(Held::Drop),
-        Ask::Begin(Begin::Entry(letter_of(b'K'))),
-        Ask::Held(Held::ReplaceEntry(3)),
-        Ask::Held(Held::Drop),
-        Ask::Keyed(Keyed::Remove(letter_of(b'k'))),
-    ]?)
-}
+/// Calls at the place of one letter, asked for in the other case. The stored key stays at an insertion, and the
+/// handed-in one is given back or put in its place.
+struct OneEntry;
 
-/// Whether the stored key stayed at an insertion, and the handed-in one was given back or put in its place.
-fn kept_the_letter(world: &Letters) -> bool {
-    let answers = world.replies();
-    if answers.len() != 9 {
-        return false;
+impl Story for OneEntry {
+    type Key = Letter;
+
+    type Deed = ReadKey;
+
+    fn pairs(alloc: Global) -> Result<Vec<(Letter, u64)>, AllocError> {
+        Ok(vec![in alloc; (letter_of(b'k'), 0)]?)
     }
-    let mut right = true;
-    for (call, letter) in [(2, b'k'), (3, b'K'), (6, b'k'), (8, b'K')] {
-        right &= shows_letter(&answers[call].answer, letter);
+
+    fn program(alloc: Global) -> Result<Vec<Ask<Letter, u64, ReadKey>>, AllocError> {
+        Ok(vec![in alloc;
+            Ask::Begin(Begin::Entry(letter_of(b'K'))),
+            Ask::Held(Held::Insert(2)),
+            Ask::Held(Held::Read(ReadKey)),
+            Ask::Held(Held::IntoKey),
+            Ask::Held(Held::Drop),
+            Ask::Begin(Begin::Entry(letter_of(b'K'))),
+            Ask::Held(Held::ReplaceEntry(3)),
+            Ask::Held(Held::Drop),
+            Ask::Keyed(Keyed::Remove(letter_of(b'k'))),
+        ]?)
     }
-    right &= answers[6].answer == Answer::Pair(letter_of(b'k'), 2);
-    right & (answers[8].answer == Answer::Pair(letter_of(b'k'), 3))
+
+    fn is_so(replies: &[Reply<Letter, u64, u8, Global>]) -> bool {
+        match replies {
+            [_, _, read, key, _, _, replaced, _, removed] => {
+                shows_letter(&read.answer, b'k')
+                    && shows_letter(&key.answer, b'K')
+                    && shows_letter(&replaced.answer, b'k')
+                    && replaced.answer == Answer::Pair(letter_of(b'k'), 2)
+                    && shows_letter(&removed.answer, b'K')
+                    && removed.answer == Answer::Pair(letter_of(b'k'), 3)
+            }
+            _ => false,
+        }
+    }
 }
 
 #[test]
 fn an_entry_keeps_the_key_that_it_was_handed(rt: HostRuntime) -> Result<(), Fail> {
-    let pairs = vec![in rt.alloc(); (letter_of(b'k'), 0)]?;
-    let program = calls_at_one_letter(rt.alloc())?;
-    let mut world = world_with(rt.alloc(), 2, pairs, program)?;
-    assert!(rt; step_round(&mut world) && kept_the_letter(&world));
+    assert!(rt; comes_true::<OneEntry>(rt.alloc(), 2)?);
     Ok(())
 }
 
 /// What the calls on keys of one hash are answered.
 const OF_ONE_HASH: &str = "value 5, none, pair 1=10, held, read 2=20, done, blocks 4; ";
 
+/// Looks at what calls are answered, and whether key 1 is away then, and keys 2 and 3 are there.
+#[derive(Drop)]
+struct TwoAndThree;
+
+impl Look for TwoAndThree {
+    type Seen = (String, bool);
+
+    fn look<W: Numbers>(self, alloc: Global, world: &mut W) -> Result<(String, bool), Fail> {
+        let is_done = step_round(world);
+        let are_there = world.found(2) == Some((2, 20)) && world.found(3) == Some((3, 30));
+        let told = world.told(alloc)?;
+        Ok((told, is_done && are_there && world.found(1).is_none()))
+    }
+}
+
 #[test]
 fn keys_of_one_hash_stay_apart(rt: HostRuntime) -> Result<(), Fail> {
     let text = "thread a\n  insert 1 10\n  insert 2 20\n  remove 1\n  get 2\n    read\n    drop\n";
-    let programs = programs_of(rt.alloc(), text)?;
-    let made = world_of(rt.alloc(), 4, OneHash, &[(1, 5), (3, 30)], &programs);
-    let mut world: World<OneHash> = made.ok_or("no world")?;
-    assert!(rt; step_round(&mut world) && has_two_and_three(&world));
-    let text = told(rt.alloc(), &world)?;
-    assert!(rt; text.as_str() == OF_ONE_HASH, "{text}");
+    let pairs = [(1, 5), (3, 30)];
+    let (told, are_there) = looked_by(rt.alloc(), 4, OneHash, &pairs, text, TwoAndThree)?;
+    assert!(rt; are_there && told.as_str() == OF_ONE_HASH, "{told}");
     Ok(())
-}
-
-/// Whether key 1 is away, and keys 2 and 3 are there.
-fn has_two_and_three(world: &World<OneHash>) -> bool {
-    world.pair(&1).is_none()
-        && world.pair(&2) == Some((&2, &20))
-        && world.pair(&3) == Some((&3, &30))
 }
 
 /// A number with a label that doesn't count when two are compared.
@@ -231,30 +266,41 @@ impl<K> Deed<K, u64> for ReadNothing {
     }
 }
 
-/// Calls on the unit.
-fn calls_on_the_unit(alloc: Global) -> Result<Vec<Ask<(), u64, ReadNothing>>, AllocError> {
-    Ok(vec![in alloc;
-        Ask::Keyed(Keyed::Insert((), 2)),
-        Ask::Keyed(Keyed::Remove(())),
-        Ask::Keyed(Keyed::Remove(())),
-    ]?)
-}
+/// Calls on the unit, which find one pair.
+struct OneUnit;
 
-/// Whether they found one pair.
-fn found_the_unit(world: &MapWorld<(), u64, SpreadState, ReadNothing>) -> bool {
-    let answers = world.replies();
-    answers.len() == 3
-        && answers[0].answer == Answer::Value(1)
-        && answers[1].answer == Answer::Pair((), 2)
-        && answers[2].answer == Answer::None
+impl Story for OneUnit {
+    type Key = ();
+
+    type Deed = ReadNothing;
+
+    fn pairs(alloc: Global) -> Result<Vec<((), u64)>, AllocError> {
+        Ok(vec![in alloc; ((), 0), ((), 1)]?)
+    }
+
+    fn program(alloc: Global) -> Result<Vec<Ask<(), u64, ReadNothing>>, AllocError> {
+        Ok(vec![in alloc;
+            Ask::Keyed(Keyed::Insert((), 2)),
+            Ask::Keyed(Keyed::Remove(())),
+            Ask::Keyed(Keyed::Remove(())),
+        ]?)
+    }
+
+    fn is_so(replies: &[Reply<(), u64, u8, Global>]) -> bool {
+        match replies {
+            [first, second, last] => {
+                first.answer == Answer::Value(1)
+                    && second.answer == Answer::Pair((), 2)
+                    && last.answer == Answer::None
+            }
+            _ => false,
+        }
+    }
 }
 
 #[test]
 fn there_is_one_unit(rt: HostRuntime) -> Result<(), Fail> {
-    let pairs = vec![in rt.alloc(); ((), 0), ((), 1)]?;
-    let program = calls_on_the_unit(rt.alloc())?;
-    let mut world = world_with(rt.alloc(), 4, pairs, program)?;
-    assert!(rt; step_round(&mut world) && found_the_unit(&world));
+    assert!(rt; comes_true::<OneUnit>(rt.alloc(), 4)?);
     Ok(())
 }
 
@@ -263,32 +309,41 @@ fn one(label: u8) -> Labelled {
     Labelled { number: 1, label }
 }
 
-/// Calls on number 1 under two labels.
-fn calls_on_one(alloc: Global) -> Result<Vec<Ask<Labelled, u64, ReadNothing>>, AllocError> {
-    Ok(vec![in alloc;
-        Ask::Keyed(Keyed::Insert(one(2), 5)),
-        Ask::Keyed(Keyed::Remove(one(3))),
-    ]?)
-}
+/// Calls on number 1 under other labels than its own, which find it and leave its label.
+struct OneNumber;
 
-/// The value that was there, and the label of the pair of value 5 that was taken out.
-fn found_one(world: &MapWorld<Labelled, u64, SpreadState, ReadNothing>) -> Option<(bool, u8)> {
-    let answers = world.replies();
-    if answers.len() != 2 {
-        return None;
+impl Story for OneNumber {
+    type Key = Labelled;
+
+    type Deed = ReadNothing;
+
+    fn pairs(alloc: Global) -> Result<Vec<(Labelled, u64)>, AllocError> {
+        Ok(vec![in alloc; (one(1), 4)]?)
     }
-    let is_set = answers[0].answer == Answer::Value(4);
-    match &answers[1].answer {
-        Answer::Pair(key, 5) => Some((is_set, key.label)),
-        _ => None,
+
+    fn program(alloc: Global) -> Result<Vec<Ask<Labelled, u64, ReadNothing>>, AllocError> {
+        Ok(vec![in alloc;
+            Ask::Keyed(Keyed::Insert(one(2), 5)),
+            Ask::Keyed(Keyed::Remove(one(3))),
+        ]?)
+    }
+
+    fn is_so(replies: &[Reply<Labelled, u64, u8, Global>]) -> bool {
+        match replies {
+            [first, last] => {
+                let is_labelled = match &last.answer {
+                    Answer::Pair(key, 5) => key.label == 1,
+                    _ => false,
+                };
+                first.answer == Answer::Value(4) && is_labelled
+            }
+            _ => false,
+        }
     }
 }
 
 #[test]
 fn keys_are_compared_by_one_field(rt: HostRuntime) -> Result<(), Fail> {
-    let pairs = vec![in rt.alloc(); (one(1), 4)]?;
-    let program = calls_on_one(rt.alloc())?;
-    let mut world = world_with(rt.alloc(), 2, pairs, program)?;
-    assert!(rt; step_round(&mut world) && found_one(&world) == Some((true, 1)));
+    assert!(rt; comes_true::<OneNumber>(rt.alloc(), 2)?);
     Ok(())
 }

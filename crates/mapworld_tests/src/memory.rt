@@ -3,18 +3,17 @@
 
 use super::judged::{at_first, broken};
 use super::worlds::{
-    World, are_finished, drain, programs_of, step_through, step_times, world_by, world_of,
+    Look, Numbers, are_finished, count_said, looked_at, programs_of, step_through, step_times,
+    world_of,
 };
 use dashmap_table::SpreadState;
 use linked_list_allocator::LocalHeap;
-use mapworld::Answer;
 use mapworld_oracle::replay::{Broken, Made};
+use mapworld_oracle::said::Said;
 use mapworld_text::Change;
 use std::alloc::{AllocError, Global};
 use std::process::Abort;
 use std::test::Fail;
-
-type Small<'h> = World<SpreadState, &'h LocalHeap>;
 
 /// How large the heaps are that have enough for each of the worlds.
 const SIZE: usize = 16384;
@@ -49,23 +48,6 @@ fn hoard<'h>(
     Ok(pieces)
 }
 
-/// Whether each call put a new pair in.
-fn are_added(world: &World) -> bool {
-    world
-        .replies()
-        .iter()
-        .all(|reply| matches!(reply.answer, Answer::None))
-}
-
-/// How many pairs there are.
-fn count_of(world: &World) -> usize {
-    let mut count = 0usize;
-    for _pair in world.pairs() {
-        count = count.wrapping_add(1);
-    }
-    count
-}
-
 /// A program that puts in so many keys, which are even and so all on one shard.
 fn insertions(alloc: Global, keys: u64) -> Result<String, AllocError> {
     let mut text = String::from_str(alloc, "thread a\n")?;
@@ -75,25 +57,32 @@ fn insertions(alloc: Global, keys: u64) -> Result<String, AllocError> {
     Ok(text)
 }
 
-/// Whether a world puts 3000 pairs in by its one thread.
-fn grows(world: &mut World) -> bool {
-    step_through(world, 0)
-        && are_finished(world)
-        && are_added(world)
-        && count_of(world) == 3000
-        && world.pair(&5998) == Some((&5998, &2999))
+/// Looks whether a world puts so many new pairs in by its one thread, the keys twice their values.
+#[derive(Drop)]
+struct Grows(u64);
+
+impl Look for Grows {
+    type Seen = bool;
+
+    fn look<W: Numbers>(self, alloc: Global, world: &mut W) -> Result<bool, Fail> {
+        let is_done = step_through(world, 0) && are_finished(world);
+        let added = count_said(alloc, world, Said::None)? as u64;
+        let pairs = world.walked(alloc)?.len() as u64;
+        let last = self.0.saturating_sub(1);
+        let is_there = world.found(last << 1) == Some((last << 1, last));
+        Ok(is_done && added == self.0 && pairs == self.0 && is_there)
+    }
 }
 
 #[test]
 fn a_shard_grows_to_thousands_of_pairs(rt: HostRuntime) -> Result<(), Fail> {
     let text = insertions(rt.alloc(), 3000)?;
-    let mut world = world_by(rt.alloc(), 2, &[], text.as_str())?;
-    assert!(rt; grows(&mut world));
+    assert!(rt; looked_at(rt.alloc(), 2, &[], text.as_str(), Grows(3000))?);
     Ok(())
 }
 
 /// Whether a world makes all its walks, and shows no visit.
-fn walks_without_visits(world: &mut Small<'_>) -> bool {
+fn walks_without_visits<W: Numbers>(world: &mut W) -> bool {
     step_through(world, 0) && are_finished(world) && world.blocks().is_empty()
 }
 
@@ -119,7 +108,7 @@ enum When {
 }
 
 /// The next thread in turn that can move, if one can.
-fn next_thread(world: &Small<'_>, last: usize) -> Option<usize> {
+fn next_thread<W: Numbers>(world: &W, last: usize) -> Option<usize> {
     let threads = world.threads();
     (1..threads.saturating_add(1))
         .map(|more| last.wrapping_add(more).checked_rem(threads).unwrap_or(0))
@@ -128,7 +117,7 @@ fn next_thread(world: &Small<'_>, last: usize) -> Option<usize> {
 
 /// Steps the threads in turn up to so many steps, and gives who made the last one; none where a step of a thread that
 /// can move isn't done.
-fn step_some(world: &mut Small<'_>, steps: u64) -> Option<usize> {
+fn step_some<W: Numbers>(world: &mut W, steps: u64) -> Option<usize> {
     let mut thread = 0;
     for _ in 0..steps {
         match next_thread(world, thread) {
@@ -143,7 +132,7 @@ fn step_some(world: &mut Small<'_>, steps: u64) -> Option<usize> {
 }
 
 /// Makes a step of the next thread in turn, if one can move, and says whether it was done.
-fn step_next(world: &mut Small<'_>, last: Option<usize>) -> bool {
+fn step_next<W: Numbers>(world: &mut W, last: Option<usize>) -> bool {
     match last {
         Some(last) => match next_thread(world, last) {
             Some(next) => step_times(world, next, 1),
@@ -155,10 +144,10 @@ fn step_next(world: &mut Small<'_>, last: Option<usize>) -> bool {
 
 /// Runs the world to its end, without memory when that is to be; and says whether all steps of threads that can move
 /// were done.
-fn run_without(
+fn run_without<W: Numbers>(
     alloc: Global,
     heap: &LocalHeap,
-    world: &mut Small<'_>,
+    world: &mut W,
     when: When,
 ) -> Result<bool, AllocError> {
     let (When::Step(number) | When::Drain(number)) = when;
@@ -167,12 +156,12 @@ fn run_without(
     let done = match when {
         When::Step(_) => step_next(world, last),
         When::Drain(_) => {
-            let _ = drain(world);
+            let _ = world.drain();
             last.is_some()
         }
     };
     drop(pieces);
-    let _ = drain(world);
+    let _ = world.drain();
     Ok(done)
 }
 
@@ -180,19 +169,16 @@ fn run_without(
 type Outcome = (bool, Broken);
 
 /// Runs a world without memory at that time.
-fn outcome_of(
+fn outcome_of<W: Numbers>(
     made: Made<'_, Change>,
     heap: &LocalHeap,
-    world: &mut Small<'_>,
+    world: &mut W,
     when: When,
 ) -> Result<Outcome, Fail> {
     if !run_without(made.alloc, heap, world, when)? {
         return Ok((false, Some("a step of a thread that can move is made")));
     }
-    let replies = world.replies().iter();
-    let refused = replies
-        .filter(|reply| matches!(reply.answer, Answer::NoMemory))
-        .count();
+    let refused = count_said(made.alloc, world, Said::NoMemory)?;
     let first = at_first(made.alloc, made.pairs)?;
     let broken = broken(made, world, KEYS, &first)?;
     Ok((refused > 0, broken))
