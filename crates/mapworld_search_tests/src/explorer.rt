@@ -1,7 +1,7 @@
 //! Every schedule of two programs, by the states to which they lead; each of them is drained.
 
 use crate::rules::{broken_by_threads, refuses};
-use crate::worlds::{World, broken, drain, made, shown_now, world_of};
+use crate::worlds::{World, broken, drain, run, shown_now, world_of};
 use mapworld::Step;
 use mapworld_explorer::{Ahead, ahead_of, may_be_fair};
 use mapworld_oracle::judge::Halfway;
@@ -95,7 +95,7 @@ impl<'r, 'p, R: AllocGlobal + Abort> Explorer<'r, 'p, R> {
     /// A world behind a schedule.
     fn world_behind(&self, schedule: &[Step]) -> Result<World, Fail> {
         let mut world = world_of(self.rt.alloc(), self.two.pairs, self.two.programs)?;
-        world.run(schedule)?;
+        run(&mut world, schedule)?;
         Ok(world)
     }
 
@@ -229,7 +229,7 @@ impl<'r, 'p, R: AllocGlobal + Abort> Explorer<'r, 'p, R> {
         step: Step,
         longer: &mut Vec<Vec<Step>>,
     ) -> Result<(), Fail> {
-        made(world, step)?;
+        run(world, &[step])?;
         let mut whole = Vec::from_slice(self.rt.alloc(), schedule)?;
         whole.push(step)?;
         self.look_at(world, whole, longer)

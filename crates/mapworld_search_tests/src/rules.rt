@@ -1,6 +1,6 @@
 //! What must be seen of a world in each of its states.
 
-use crate::worlds::{World, made};
+use crate::worlds::{World, run};
 use mapworld::{RunFault, Status, Step};
 use mapworld_explorer::{Ahead, ahead_of};
 use parking_lot_core_model::{Place, ThreadStatus};
@@ -95,7 +95,7 @@ pub fn broken_by_threads(world: &World) -> Option<&'static str> {
 
 /// Whether a step that can't be made is refused, and changes nothing.
 fn is_refused(alloc: Global, world: &mut World, ahead: &Ahead, step: Step) -> Result<bool, Fail> {
-    let is_refused = made(world, step) == Err(RunFault::CannotMove(0));
+    let is_refused = run(world, &[step]) == Err(RunFault::CannotMove(0));
     Ok(is_refused && ahead_of(alloc, world)? == *ahead)
 }
 

@@ -2,7 +2,7 @@
 //! hold these and give them up.
 
 use crate::rules::{broken_by_threads, open_sections, refuses};
-use crate::worlds::{World, drain, made};
+use crate::worlds::{World, drain, run};
 use mapworld::Step;
 use mapworld_explorer::{Ahead, ahead_of, world_behind};
 use mapworld_text::{Case, read};
@@ -85,7 +85,7 @@ impl<'r, 'c, 'a, R: AllocGlobal + Abort> Beside<'r, 'c, 'a, R> {
                 if stands_as_wanted(&world, thread) {
                     break;
                 }
-                made(&mut world, plain(thread))?;
+                run(&mut world, &[plain(thread)])?;
                 schedule.push(plain(thread))?;
             }
         }
@@ -125,7 +125,7 @@ impl<'r, 'c, 'a, R: AllocGlobal + Abort> Beside<'r, 'c, 'a, R> {
     ) -> Result<(), Fail> {
         let mut world = world_behind(self.rt.alloc(), self.case, schedule)?;
         if world.can_move(thread) {
-            made(&mut world, plain(thread))?;
+            run(&mut world, &[plain(thread)])?;
             let mut whole = Vec::from_slice(self.rt.alloc(), schedule)?;
             whole.push(plain(thread))?;
             self.look_at(&mut world, whole, longer)?;

@@ -43,10 +43,10 @@ pub fn world_of(
     Ok(MapWorld::new(alloc, 2, SpreadState, first, asked)?)
 }
 
-/// Makes a step, or says why it can't be made. Tests step a world by this alone, so that what `run` promises is looked at
+/// Makes steps, or says which can't be made. Tests step a world by this alone, so that what `run` promises is looked at
 /// once.
-pub fn made(world: &mut World, step: Step) -> Result<(), RunFault> {
-    world.run(&[step])
+pub fn run(world: &mut World, steps: &[Step]) -> Result<(), RunFault> {
+    world.run(steps)
 }
 
 /// Drains a world, by so many steps.
