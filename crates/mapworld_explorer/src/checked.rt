@@ -14,14 +14,21 @@ pub struct Broken {
     pub outcome: Option<usize>,
 }
 
+/// Whether a word is the one that is wanted; in any case of its letters, where that is said.
+fn is_word(found: &str, wanted: Option<&&str>, any_case: bool) -> bool {
+    match wanted {
+        Some(wanted) if any_case => wanted.eq_ignore_ascii_case(found),
+        Some(wanted) => *wanted == found,
+        None => false,
+    }
+}
+
 /// Whether the text is these words; in any case of their letters, where that is said.
 pub(crate) fn is_text(found: &str, want: &[&str], any_case: bool) -> bool {
     let mut count: usize = 0;
     for word in found.split_whitespace() {
-        match want.get(count) {
-            Some(wanted) if *wanted == word => {}
-            Some(wanted) if any_case && wanted.eq_ignore_ascii_case(word) => {}
-            _ => return false,
+        if !is_word(word, want.get(count), any_case) {
+            return false;
         }
         count = count.saturating_add(1);
     }

@@ -9,11 +9,6 @@ use mapworld_text::{Case, Shown, View};
 use std::alloc::AllocError;
 use std::fmt;
 
-/// A word for yes and no.
-fn yes_or_no(is_so: bool) -> &'static str {
-    if is_so { "yes" } else { "no" }
-}
-
 fn write_it(shown: &impl fmt::Display, out: &mut String) -> Written {
     write!(out, "{shown}")
 }
@@ -180,7 +175,7 @@ pub(crate) fn write_seen(
         View::Words(shard) => write_words(traced, shard, out),
         View::Queue(key) => write_queue(world, case, key, out),
         View::Status(thread) => out.push_str(status_of(world, thread)),
-        View::Moves(thread) => out.push_str(yes_or_no(world.can_move(thread))),
+        View::Moves(thread) => out.push_str(if world.can_move(thread) { "yes" } else { "no" }),
         View::Started(thread) => match world.started(thread) {
             Some(step) => write_it(&step, out),
             None => out.push_str("no"),

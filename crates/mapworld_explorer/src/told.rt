@@ -233,10 +233,9 @@ impl Before {
     /// The look for the call's key.
     fn write_look(&self, key: u64, out: &mut String) -> Written {
         let shard = self.shard;
-        let found = if self.present == Some(true) {
-            "present"
-        } else {
-            "absent"
+        let found = match self.present {
+            Some(true) => "present",
+            _ => "absent",
         };
         write!(out, "looks for key {key} in shard {shard}: {found}")
     }
