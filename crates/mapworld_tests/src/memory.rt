@@ -3,8 +3,8 @@
 
 use super::judged::{at_first, broken};
 use super::worlds::{
-    Look, Numbers, are_finished, count_said, looked_at, programs_of, step_through, step_times,
-    world_of,
+    Look, Numbers, are_finished, count_said, looked_at, looked_in, programs_of, step_through,
+    step_times,
 };
 use dashmap_table::SpreadState;
 use linked_list_allocator::LocalHeap;
@@ -81,9 +81,16 @@ fn a_shard_grows_to_thousands_of_pairs(rt: HostRuntime) -> Result<(), Fail> {
     Ok(())
 }
 
-/// Whether a world makes all its walks, and shows no visit.
-fn walks_without_visits<W: Numbers>(world: &mut W) -> bool {
-    step_through(world, 0) && are_finished(world) && world.blocks().is_empty()
+/// Looks whether a world makes all its walks, and shows no visit.
+#[derive(Drop)]
+struct NoVisits;
+
+impl Look for NoVisits {
+    type Seen = bool;
+
+    fn look<W: Numbers>(self, _alloc: Global, world: &mut W) -> Result<bool, Fail> {
+        Ok(step_through(world, 0) && are_finished(world) && world.blocks().is_empty())
+    }
 }
 
 #[test]
@@ -91,10 +98,8 @@ fn walks_with_the_stop_0_take_no_room_for_visits(rt: HostRuntime) -> Result<(), 
     let programs = programs_of(rt.alloc(), "thread a\n  iter stop 0\nagain 999\n")?;
     // A block for each visit of 64 shards would take seven times as much.
     let heap = LocalHeap::new(rt.alloc(), 500_000)?;
-    match world_of(&heap, 64, SpreadState, &[], &programs) {
-        Some(mut world) => assert!(rt; walks_without_visits(&mut world)),
-        None => return Err(Fail::new("no world")),
-    }
+    let seen = looked_in(rt.alloc(), &heap, 64, SpreadState, &[], &programs, NoVisits)?;
+    assert!(rt; seen == Some(true));
     Ok(())
 }
 
@@ -168,29 +173,46 @@ fn run_without<W: Numbers>(
 /// Whether a call was refused, and the rule that is broken, if one is.
 type Outcome = (bool, Broken);
 
-/// Runs a world without memory at that time.
-fn outcome_of<W: Numbers>(
-    made: Made<'_, Change>,
-    heap: &LocalHeap,
-    world: &mut W,
+/// Runs a world without memory at that time, and looks at what came of it.
+#[derive(Drop)]
+struct Short<'a> {
+    made: Made<'a, Change>,
+    heap: &'a LocalHeap,
     when: When,
-) -> Result<Outcome, Fail> {
-    if !run_without(made.alloc, heap, world, when)? {
-        return Ok((false, Some("a step of a thread that can move is made")));
+}
+
+impl<'a> Look for Short<'a> {
+    type Seen = Outcome;
+
+    fn look<W: Numbers>(self, alloc: Global, world: &mut W) -> Result<Outcome, Fail> {
+        if !run_without(alloc, self.heap, world, self.when)? {
+            return Ok((false, Some("a step of a thread that can move is made")));
+        }
+        let refused = count_said(alloc, world, Said::NoMemory)?;
+        let first = at_first(alloc, self.made.pairs)?;
+        let broken = broken(self.made, world, KEYS, &first)?;
+        Ok((refused > 0, broken))
     }
-    let refused = count_said(made.alloc, world, Said::NoMemory)?;
-    let first = at_first(made.alloc, made.pairs)?;
-    let broken = broken(made, world, KEYS, &first)?;
-    Ok((refused > 0, broken))
 }
 
 /// Makes a world and runs it without memory at that time.
 fn outcome_without(made: Made<'_, Change>, when: When) -> Result<Outcome, Fail> {
     let heap = LocalHeap::new(made.alloc, SIZE)?;
-    match world_of(&heap, made.shards, SpreadState, made.pairs, made.programs) {
-        Some(mut world) => outcome_of(made, &heap, &mut world, when),
-        None => Ok((false, Some("a world is made"))),
-    }
+    let look = Short {
+        made,
+        heap: &heap,
+        when,
+    };
+    let seen = looked_in(
+        made.alloc,
+        &heap,
+        made.shards,
+        SpreadState,
+        made.pairs,
+        made.programs,
+        look,
+    )?;
+    Ok(seen.unwrap_or((false, Some("a world is made"))))
 }
 
 /// Whether calls of programs are refused for want of memory.

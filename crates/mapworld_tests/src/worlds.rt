@@ -246,6 +246,22 @@ pub trait Look {
     fn look<W: Numbers>(self, alloc: Global, world: &mut W) -> Result<Self::Seen, Fail>;
 }
 
+/// Makes a world in a memory, and looks at it. None where it isn't made.
+pub fn looked_in<S: BuildHasher + Drop, A: Allocator + Copy + Drop, L: Look + Drop>(
+    alloc: Global,
+    memory: A,
+    shards: usize,
+    hasher: S,
+    pairs: &[(u64, u64)],
+    programs: &[Vec<Asked>],
+    look: L,
+) -> Result<Option<L::Seen>, Fail> {
+    match world_of(memory, shards, hasher, pairs, programs) {
+        Some(mut world) => Ok(Some(look.look(alloc, &mut world)?)),
+        None => Ok(None),
+    }
+}
+
 /// Makes a world of the programs of a text, of so many shards, that begins with these pairs; and looks at it.
 pub fn looked_by<S: BuildHasher + Drop, L: Look + Drop>(
     alloc: Global,
@@ -256,8 +272,8 @@ pub fn looked_by<S: BuildHasher + Drop, L: Look + Drop>(
     look: L,
 ) -> Result<L::Seen, Fail> {
     let programs = programs_of(alloc, text)?;
-    match world_of(alloc, shards, hasher, pairs, &programs) {
-        Some(mut world) => look.look(alloc, &mut world),
+    match looked_in(alloc, alloc, shards, hasher, pairs, &programs, look)? {
+        Some(seen) => Ok(seen),
         None => Err(Fail::new("no world")),
     }
 }
