@@ -1,7 +1,7 @@
 //! Whether cases are as their files say.
 
 use crate::command::Options;
-use crate::files::{limit_name, schedule_text, searched, text_of};
+use crate::files::{limit_name, outcome_text, schedule_text, searched, text_of};
 use mapworld_explorer::{Broken, Failure, Outcome, Search, broken_claim, failure_of, is_claim};
 use mapworld_text::{Case, Line, read};
 use std::alloc::{AllocError, Global};
@@ -16,6 +16,11 @@ struct Tally {
 }
 
 impl Tally {
+    const NOTHING: Tally = Tally {
+        passed: 0,
+        failed: 0,
+    };
+
     fn add(self, other: Tally) -> Tally {
         Tally {
             passed: self.passed.saturating_add(other.passed),
@@ -79,6 +84,17 @@ pub fn tell_failure<R: Print + AllocGlobal>(
     println!(rt; "{file}:{number}: in `{name}`, {way}: expected `{want}`, found `{found}`")
 }
 
+/// A schedule that leads to an outcome of which a claim isn't so.
+fn way_to(
+    alloc: Global,
+    case: &Case<'_>,
+    search: &Search<'_, '_>,
+    outcome: &Outcome,
+) -> Result<String, AllocError> {
+    let schedule = search.schedule(outcome.state)?;
+    schedule_text(alloc, case, &schedule)
+}
+
 /// An outcome of which a claim isn't so, and a schedule that leads to it.
 fn told_outcome(
     alloc: Global,
@@ -86,13 +102,13 @@ fn told_outcome(
     search: &Search<'_, '_>,
     outcome: &Outcome,
 ) -> Result<String, AllocError> {
-    let mut text = String::new(alloc);
-    text.push_str("not so of `")?;
-    outcome.write(case, &mut text)?;
-    text.push_str("`, to which leads\n  ")?;
-    let schedule = search.schedule(outcome.state)?;
-    text.push_str(schedule_text(alloc, case, &schedule)?.as_str())?;
-    Ok(text)
+    let text = outcome_text(alloc, case, outcome)?;
+    let way = way_to(alloc, case, search, outcome)?;
+    format!(in alloc;
+        "not so of `{}`, to which leads\n  {}",
+        text.as_str(),
+        way.as_str()
+    )
 }
 
 /// Tells which claim of a case isn't so, and by which schedule.
@@ -121,6 +137,29 @@ fn tell_broken<R: Print + AllocGlobal>(
     }
 }
 
+/// Whether all that a case claims is so of a search that has come to its end; what isn't is told.
+fn keeps_found<R: Print + AllocGlobal>(
+    rt: &R,
+    file: &str,
+    case: &Case<'_>,
+    search: &Search<'_, '_>,
+) -> io::Result<bool> {
+    match broken_claim(rt.alloc(), case, search) {
+        Ok(None) => Ok(true),
+        Ok(Some(broken)) => {
+            tell_broken(rt, file, case, search, broken)?;
+            Ok(false)
+        }
+        Err(expected) => {
+            let number = case.number;
+            let name = case.name;
+            let words = expected.words();
+            println!(rt; "{file}:{number}: in `{name}`: expected {words}")?;
+            Ok(false)
+        }
+    }
+}
+
 /// Whether all that a case claims of every schedule is so; what isn't is told.
 fn keeps_claims<R: Print + Eprint + AllocGlobal>(
     rt: &R,
@@ -130,29 +169,17 @@ fn keeps_claims<R: Print + Eprint + AllocGlobal>(
 ) -> io::Result<bool> {
     let number = case.number;
     let name = case.name;
-    let search = match searched(rt, options, case)? {
-        Ok(search) => search,
+    match searched(rt, options, case)? {
+        Ok(search) => match search.limit {
+            None => keeps_found(rt, file, case, &search),
+            Some(limit) => {
+                let limit = limit_name(limit);
+                println!(rt; "{file}:{number}: in `{name}`: the limit {limit} was met")?;
+                Ok(false)
+            }
+        },
         Err(fault) => {
             println!(rt; "{file}:{number}: in `{name}`: {fault}")?;
-            return Ok(false);
-        }
-    };
-    if let Some(limit) = search.limit {
-        let limit = limit_name(limit);
-        println!(rt; "{file}:{number}: in `{name}`: the limit {limit} was met")?;
-        return Ok(false);
-    }
-    match broken_claim(rt.alloc(), case, &search) {
-        Ok(None) => Ok(true),
-        Ok(Some(broken)) => {
-            tell_broken(rt, file, case, &search, broken)?;
-            Ok(false)
-        }
-        Err(expected) => {
-            println!(rt;
-                "{file}:{number}: in `{name}`: expected {}",
-                expected.words()
-            )?;
             Ok(false)
         }
     }
@@ -175,33 +202,37 @@ fn passes<R: Print + Eprint + AllocGlobal>(
     Ok(true)
 }
 
+/// Checks cases.
+fn check_cases<R: Print + Eprint + AllocGlobal>(
+    rt: &R,
+    options: &Options<'_, '_>,
+    file: &str,
+    cases: &[Case<'_>],
+) -> io::Result<Tally> {
+    let mut tally = Tally::NOTHING;
+    for case in cases {
+        tally = tally.add(counted(passes(rt, options, file, case)?));
+    }
+    println!(rt; "{file}: {} passed", tally.passed)?;
+    Ok(tally)
+}
+
 /// Checks the cases of a file.
 fn check_file<R: Files + Print + Eprint + AllocGlobal>(
     rt: &R,
     options: &Options<'_, '_>,
     file: &str,
 ) -> io::Result<Tally> {
-    let Some(text) = text_of(rt, file)? else {
-        return Ok(counted(false));
-    };
-    let mut tally = Tally {
-        passed: 0,
-        failed: 0,
-    };
-    match read(rt.alloc(), text.as_str()) {
-        Ok(cases) => {
-            for case in &cases {
-                let passed = passes(rt, options, file, case)?;
-                tally = tally.add(counted(passed));
+    match text_of(rt, file)? {
+        Some(text) => match read(rt.alloc(), text.as_str()) {
+            Ok(cases) => check_cases(rt, options, file, &cases),
+            Err(fault) => {
+                println!(rt; "{file}: {fault}")?;
+                Ok(counted(false))
             }
-            println!(rt; "{file}: {} passed", tally.passed)?;
-        }
-        Err(fault) => {
-            println!(rt; "{file}: {fault}")?;
-            tally = counted(false);
-        }
+        },
+        None => Ok(counted(false)),
     }
-    Ok(tally)
 }
 
 /// Checks the cases of all files that are named.
@@ -212,13 +243,9 @@ pub fn check<R: Files + Print + Eprint + AllocGlobal>(
     let Some(files) = options.files() else {
         return Ok(false);
     };
-    let mut tally = Tally {
-        passed: 0,
-        failed: 0,
-    };
+    let mut tally = Tally::NOTHING;
     for file in files {
-        let more = check_file(rt, options, file)?;
-        tally = tally.add(more);
+        tally = tally.add(check_file(rt, options, file)?);
     }
     println!(rt; "{} passed, {} failed", tally.passed, tally.failed)?;
     Ok(tally.failed == 0)

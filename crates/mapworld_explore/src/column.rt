@@ -1,11 +1,11 @@
 //! The same picture for narrow pages: time downwards, a column a thread.
 
 use crate::shapes::{
-    Anchor, Written, write_box, write_dot, write_fitted, write_head, write_line, write_text,
+    Anchor, HATCHED, Written, write_box, write_dot, write_fitted, write_head, write_line,
+    write_number, write_painted, write_text,
 };
 use mapworld_explorer::{Bar, Course, Held, Sleep, Waking};
 use mapworld_text::Case;
-use std::alloc::AllocError;
 
 /// How wide all of it is, and where the first column begins.
 const WIDTH: u64 = 352;
@@ -91,11 +91,7 @@ fn write_sleep(columns: Columns, sleep: &Sleep, out: &mut String) -> Written {
     let x = columns.x(sleep.thread);
     let y = columns.y(sleep.start);
     let height = columns.y(sleep.end).saturating_sub(y);
-    let width = columns.bar();
-    write!(
-        out,
-        "<rect x=\"{x}\" y=\"{y}\" width=\"{width}\" height=\"{height}\" fill=\"url(#hatch)\" stroke=\"#555\"/>\n"
-    )
+    write_painted((x, y), (columns.bar(), height), HATCHED, out)
 }
 
 /// Who wakes whom.
@@ -123,19 +119,26 @@ fn write_hold(columns: Columns, held: &Held, out: &mut String) -> Written {
     write_box((x, y), (10, height), held.thread, class, out)
 }
 
-/// The steps' numbers, and the threads' names.
-fn write_grid(columns: Columns, case: &Case<'_>, out: &mut String) -> Written {
+/// The line of a step, and its number.
+fn write_step(columns: Columns, step: u64, out: &mut String) -> Written {
+    let y = columns.y(step);
+    write_line((LEFT, y), (WIDTH, y), "grid", out)?;
+    let at = (20, y.saturating_add(4));
+    write_number(at, Anchor::End, "faint", "", step, out)
+}
+
+/// The steps' numbers.
+fn write_steps(columns: Columns, out: &mut String) -> Written {
     for step in 0..=columns.steps {
         if step.checked_rem(5) == Some(0) {
-            let y = columns.y(step);
-            write_line((LEFT, y), (WIDTH, y), "grid", out)?;
-            write!(
-                out,
-                "<text x=\"20\" y=\"{}\" text-anchor=\"end\" class=\"faint\">{step}</text>\n",
-                y.saturating_add(4)
-            )?;
+            write_step(columns, step, out)?;
         }
     }
+    Ok(())
+}
+
+/// The threads' names.
+fn write_names(columns: Columns, case: &Case<'_>, out: &mut String) -> Written {
     for thread in 0..columns.threads {
         let at = (columns.middle(thread), 14);
         write_text(at, Anchor::Middle, "name", case.name_of(thread), out)?;
@@ -161,19 +164,19 @@ fn write_contents(columns: Columns, course: &Course, out: &mut String) -> Writte
     Ok(())
 }
 
-/// What is drawn of a course.
-pub fn write_columns(case: &Case<'_>, course: &Course, out: &mut String) -> Result<(), AllocError> {
-    let columns = Columns::of(course, case.programs.len());
-    let width = columns.x(columns.threads).saturating_add(CONTENTS);
-    let height = columns.y(columns.steps).saturating_add(12);
-    write_head(width, height, out)?;
-    write_grid(columns, case, out)?;
+/// The calls and the sleeps.
+fn write_bars(columns: Columns, case: &Case<'_>, course: &Course, out: &mut String) -> Written {
     for bar in &course.bars {
         write_bar(columns, case, bar, out)?;
     }
     for sleep in &course.sleeps {
         write_sleep(columns, sleep, out)?;
     }
+    Ok(())
+}
+
+/// The holds, and where calls count as done.
+fn write_holds(columns: Columns, course: &Course, out: &mut String) -> Written {
     for held in &course.holds {
         write_hold(columns, held, out)?;
     }
@@ -181,6 +184,19 @@ pub fn write_columns(case: &Case<'_>, course: &Course, out: &mut String) -> Resu
         let at = (columns.middle(point.thread), columns.y(point.step));
         write_dot(at, point.thread, out)?;
     }
+    Ok(())
+}
+
+/// What is drawn of a course.
+pub fn write_columns(case: &Case<'_>, course: &Course, out: &mut String) -> Written {
+    let columns = Columns::of(course, case.programs.len());
+    let width = columns.x(columns.threads).saturating_add(CONTENTS);
+    let height = columns.y(columns.steps).saturating_add(12);
+    write_head(width, height, out)?;
+    write_steps(columns, out)?;
+    write_names(columns, case, out)?;
+    write_bars(columns, case, course, out)?;
+    write_holds(columns, course, out)?;
     for waking in &course.wakings {
         write_waking(columns, waking, out)?;
     }

@@ -68,145 +68,151 @@ impl<'m, 'a> Options<'m, 'a> {
     }
 }
 
-fn file<'a>(alloc: Global) -> Arg<'a> {
-    Arg::new(alloc, "file")
-        .value_name("FILE")
-        .required(true)
-        .action(ArgAction::Set)
-        .help("a file of cases")
+/// What may stand in a command line: its name, and for the help what its value is called and what it is.
+#[derive(Clone, Copy)]
+enum Said {
+    /// A word that has to be there.
+    One(&'static str, &'static str, &'static str),
+    /// Words, of which one has to be there.
+    Some(&'static str, &'static str, &'static str),
+    /// An option with a word.
+    Word(&'static str, &'static str, &'static str),
+    /// An option with a number.
+    Number(&'static str, &'static str),
+    /// An option alone.
+    Flag(&'static str, &'static str),
 }
 
-fn files<'a>(alloc: Global) -> Arg<'a> {
-    Arg::new(alloc, "file")
-        .value_name("FILES")
-        .required(true)
-        .action(ArgAction::Append)
-        .num_args(1..)
-        .help("files of cases")
-}
+const FILE: Said = Said::One("file", "FILE", "a file of cases");
 
-fn outcome<'a>(alloc: Global) -> Arg<'a> {
-    Arg::new(alloc, "outcome")
-        .value_name("OUTCOME")
-        .required(true)
-        .action(ArgAction::Append)
-        .num_args(1..)
-        .help(
-            "its number, or words of it, as a.0=none contents 1=10; or run, for the case's own schedule",
-        )
-}
+const FILES: Said = Said::Some("file", "FILES", "files of cases");
 
-fn number<'a>(alloc: Global, name: &'static str, help: &'static str) -> Arg<'a> {
-    Arg::new(alloc, name)
-        .long(name)
-        .value_name("N")
-        .action(ArgAction::Set)
-        .value_parser(clap::value_parser!(usize))
-        .help(help)
-}
+const OUTCOME: Said = Said::Some(
+    "outcome",
+    "OUTCOME",
+    "its number, or words of it, as a.0=none contents 1=10; or run, for the case's own schedule",
+);
 
-fn flag<'a>(alloc: Global, name: &'static str, help: &'static str) -> Arg<'a> {
-    Arg::new(alloc, name)
-        .long(name)
-        .action(ArgAction::SetTrue)
-        .help(help)
-}
+const CASE: Said = Said::Word(
+    "case",
+    "NAME",
+    "the case of the file that is meant, if not the first",
+);
 
-fn case<'a>(alloc: Global) -> Arg<'a> {
-    Arg::new(alloc, "case")
-        .long("case")
-        .value_name("NAME")
-        .action(ArgAction::Set)
-        .help("the case of the file that is meant, if not the first")
-}
+const STATES: Said = Said::Number("states", "stop behind so many states");
 
-/// A command that searches.
-fn searching<'a>(
-    alloc: Global,
+const STEPS: Said = Said::Number("steps", "stop schedules behind so many steps");
+
+const PLAIN: Said = Said::Flag("plain", "try each order of all steps, as a test");
+
+const JSON: Said = Said::Flag("json", "for other programs");
+
+const THREADS: Said = Said::Number("threads", "so many threads; 5 if not told");
+
+const CALLS: Said = Said::Number("calls", "so many calls in all; 200 if not told");
+
+const ONE: Said = Said::Flag("one", "all threads call one key, and not each its own");
+
+/// A command: its name, what it does, and what may stand behind it.
+#[derive(Clone, Copy)]
+struct Told {
     name: &'static str,
     about: &'static str,
-) -> Result<Command<'a>, AllocError> {
-    Command::new(alloc, name)
-        .about(about)
-        .arg(number(alloc, "states", "stop behind so many states"))?
-        .arg(number(alloc, "steps", "stop schedules behind so many steps"))?
-        .arg(flag(alloc, "plain", "try each order of all steps, as a test"))
+    said: &'static [Said],
 }
 
-fn running<'a>(alloc: Global) -> Result<Command<'a>, AllocError> {
-    Command::new(alloc, "run")
-        .about("Run the cases of a file by their own schedules, and show what came of it")
-        .arg(file(alloc))
+const COMMANDS: &[Told] = &[
+    Told {
+        name: "run",
+        about: "Run the cases of a file by their own schedules, and show what came of it",
+        said: &[FILE],
+    },
+    Told {
+        name: "explore",
+        about: "List all that the cases of a file can come to, by every schedule",
+        said: &[STATES, STEPS, PLAIN, FILE, CASE, JSON],
+    },
+    Told {
+        name: "why",
+        about: "Tell a shortest schedule to an outcome, step by step",
+        said: &[STATES, STEPS, PLAIN, FILE, OUTCOME, CASE],
+    },
+    Told {
+        name: "picture",
+        about: "Draw that schedule, as a page of HTML",
+        said: &[STATES, STEPS, PLAIN, FILE, OUTCOME, CASE],
+    },
+    Told {
+        name: "check",
+        about: "Play the cases of files, and test what they claim of all schedules",
+        said: &[STATES, STEPS, PLAIN, FILES],
+    },
+    Told {
+        name: "time",
+        about: "Run a world with many calls, and tell what a step of it took",
+        said: &[THREADS, CALLS, ONE],
+    },
+];
+
+/// A word that has to be there, or words.
+fn word<'a>(alloc: Global, name: &'static str, value: &'static str) -> Arg<'a> {
+    Arg::new(alloc, name).value_name(value).required(true)
 }
 
-fn exploring<'a>(alloc: Global) -> Result<Command<'a>, AllocError> {
-    searching(
-        alloc,
-        "explore",
-        "List all that the cases of a file can come to, by every schedule",
-    )?
-    .arg(file(alloc))?
-    .arg(case(alloc))?
-    .arg(flag(alloc, "json", "for other programs"))
+/// An option with a value.
+fn option<'a>(alloc: Global, name: &'static str, value: &'static str) -> Arg<'a> {
+    let arg = Arg::new(alloc, name).long(name).value_name(value);
+    arg.action(ArgAction::Set)
 }
 
-fn telling<'a>(
-    alloc: Global,
-    name: &'static str,
-    about: &'static str,
-) -> Result<Command<'a>, AllocError> {
-    searching(alloc, name, about)?
-        .arg(file(alloc))?
-        .arg(outcome(alloc))?
-        .arg(case(alloc))
+fn arg_of<'a>(alloc: Global, said: Said) -> Arg<'a> {
+    match said {
+        Said::One(name, value, help) => {
+            word(alloc, name, value).action(ArgAction::Set).help(help)
+        }
+        Said::Some(name, value, help) => {
+            let arg = word(alloc, name, value).action(ArgAction::Append);
+            arg.num_args(1..).help(help)
+        }
+        Said::Word(name, value, help) => option(alloc, name, value).help(help),
+        Said::Number(name, help) => {
+            let arg = option(alloc, name, "N").help(help);
+            arg.value_parser(clap::value_parser!(usize))
+        }
+        Said::Flag(name, help) => {
+            let arg = Arg::new(alloc, name).long(name).help(help);
+            arg.action(ArgAction::SetTrue)
+        }
+    }
 }
 
-fn checking<'a>(alloc: Global) -> Result<Command<'a>, AllocError> {
-    searching(
-        alloc,
-        "check",
-        "Play the cases of files, and test what they claim of all schedules",
-    )?
-    .arg(files(alloc))
+/// The arguments of a command.
+fn args_of<'a>(alloc: Global, said: &[Said]) -> Result<Vec<Arg<'a>>, AllocError> {
+    let mut args = Vec::new(alloc);
+    for one in said {
+        args.push(arg_of(alloc, *one))?;
+    }
+    Ok(args)
 }
 
-fn timing<'a>(alloc: Global) -> Result<Command<'a>, AllocError> {
-    Command::new(alloc, "time")
-        .about("Run a world with many calls, and tell what a step of it took")
-        .arg(number(alloc, "threads", "so many threads; 5 if not told"))?
-        .arg(number(alloc, "calls", "so many calls in all; 200 if not told"))?
-        .arg(flag(
-            alloc,
-            "one",
-            "all threads call one key, and not each its own",
-        ))
+fn command_of<'a>(alloc: Global, told: &Told) -> Result<Command<'a>, AllocError> {
+    let args = args_of(alloc, told.said)?;
+    Command::new(alloc, told.name).about(told.about).args(args)
 }
 
-/// What is told of outcomes.
-fn tellings<'a>(alloc: Global, command: Command<'a>) -> Result<Command<'a>, AllocError> {
-    command
-        .subcommand(telling(
-            alloc,
-            "why",
-            "Tell a shortest schedule to an outcome, step by step",
-        )?)?
-        .subcommand(telling(alloc, "picture", "Draw that schedule, as a page of HTML")?)
-}
-
-/// What is done with all cases of files.
-fn runs<'a>(alloc: Global, command: Command<'a>) -> Result<Command<'a>, AllocError> {
-    command
-        .subcommand(running(alloc)?)?
-        .subcommand(exploring(alloc)?)
+fn commands_of<'a>(alloc: Global, all: &[Told]) -> Result<Vec<Command<'a>>, AllocError> {
+    let mut commands = Vec::new(alloc);
+    for told in all {
+        commands.push(command_of(alloc, told)?)?;
+    }
+    Ok(commands)
 }
 
 /// The whole of it.
 pub fn command_line<'a>(alloc: Global) -> Result<Command<'a>, AllocError> {
-    let command = Command::new(alloc, "mapworld_explore")
+    let commands = commands_of(alloc, COMMANDS)?;
+    Command::new(alloc, "mapworld_explore")
         .about("Every schedule of small programs of map calls")
-        .subcommand_required(true);
-    let command = tellings(alloc, runs(alloc, command)?)?;
-    command
-        .subcommand(checking(alloc)?)?
-        .subcommand(timing(alloc)?)
+        .subcommand_required(true)
+        .subcommands(commands)
 }

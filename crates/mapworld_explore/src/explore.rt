@@ -1,12 +1,31 @@
 //! All that the cases of a file can come to.
 
 use crate::command::Options;
-use crate::files::{is_meant, limit_name, schedule_text, searched, text_of, write_title};
+use crate::files::{is_meant, limit_name, outcome_text, schedule_text, searched, title_of};
 use crate::json::json_of;
+use mapworld::Step;
 use mapworld_explorer::{Outcome, Search, outcome_behind};
-use mapworld_text::{Case, read};
+use mapworld_text::Case;
 use std::io;
-use std::rt::Files;
+
+/// Tells an outcome that was read off a world, and the schedule that led there, to which so many ends come.
+fn tell_led<R: Print + AllocGlobal>(
+    rt: &R,
+    case: &Case<'_>,
+    number: usize,
+    led: &Outcome,
+    schedule: &[Step],
+    (at, ends): (usize, usize),
+) -> io::Result<()> {
+    let text = outcome_text(rt.alloc(), case, led)?;
+    println!(rt; "outcome {number}: {}", text.as_str())?;
+    println!(rt;
+        "  at {at} of {ends} ends, the nearest by {} steps:",
+        led.steps
+    )?;
+    let steps = schedule_text(rt.alloc(), case, schedule)?;
+    println!(rt; "  {}", steps.as_str())
+}
 
 /// Tells one outcome: the answers and the contents of a world that is led anew by the schedule which is told with them.
 fn tell_outcome<R: Print + Eprint + AllocGlobal>(
@@ -17,20 +36,13 @@ fn tell_outcome<R: Print + Eprint + AllocGlobal>(
     outcome: &Outcome,
 ) -> io::Result<()> {
     let schedule = search.schedule(outcome.state)?;
-    let led = match outcome_behind(rt.alloc(), case, &schedule) {
-        Ok(led) => led,
-        Err(fault) => return eprintln!(rt; "{fault}"),
-    };
-    let mut text = String::new(rt.alloc());
-    led.write(case, &mut text)?;
-    let steps = schedule_text(rt.alloc(), case, &schedule)?;
-    let ends = search.ends;
-    println!(rt; "outcome {number}: {}", text.as_str())?;
-    println!(rt;
-        "  at {} of {ends} ends, the nearest by {} steps:",
-        outcome.ends, led.steps
-    )?;
-    println!(rt; "  {}", steps.as_str())
+    match outcome_behind(rt.alloc(), case, &schedule) {
+        Ok(led) => {
+            let ends = (outcome.ends, search.ends);
+            tell_led(rt, case, number, &led, &schedule, ends)
+        }
+        Err(fault) => eprintln!(rt; "{fault}"),
+    }
 }
 
 /// Tells for how many steps each thread slept at most.
@@ -73,6 +85,25 @@ fn tell<R: Print + Eprint + AllocGlobal>(
     Ok(())
 }
 
+/// Tells what was found of a case, as the command line asks for it.
+fn tell_search<R: Print + Eprint + AllocGlobal>(
+    rt: &R,
+    is_json: bool,
+    file: &str,
+    case: &Case<'_>,
+    search: &Search<'_, '_>,
+) -> io::Result<()> {
+    if is_json {
+        match json_of(rt.alloc(), file, case, search) {
+            Ok(text) => println!(rt; "{}", text.as_str()),
+            Err(fault) => eprintln!(rt; "{fault}"),
+        }
+    } else {
+        let title = title_of(rt.alloc(), file, case)?;
+        tell(rt, title.as_str(), case, search)
+    }
+}
+
 /// Explores a case; says whether that came to its end.
 fn explore_case<R: Print + Eprint + AllocGlobal>(
     rt: &R,
@@ -80,63 +111,31 @@ fn explore_case<R: Print + Eprint + AllocGlobal>(
     file: &str,
     case: &Case<'_>,
 ) -> io::Result<bool> {
-    let mut title = String::new(rt.alloc());
-    write_title(file, case, &mut title)?;
-    let search = match searched(rt, options, case)? {
-        Ok(search) => search,
+    match searched(rt, options, case)? {
+        Ok(search) => {
+            tell_search(rt, options.is_json(), file, case, &search)?;
+            Ok(search.limit.is_none())
+        }
         Err(fault) => {
+            let title = title_of(rt.alloc(), file, case)?;
             println!(rt; "{}: {fault}", title.as_str())?;
-            return Ok(false);
+            Ok(false)
         }
-    };
-    if options.is_json() {
-        match json_of(rt.alloc(), file, case, &search) {
-            Ok(text) => println!(rt; "{}", text.as_str())?,
-            Err(fault) => eprintln!(rt; "{fault}")?,
-        }
-    } else {
-        tell(rt, title.as_str(), case, &search)?;
     }
-    Ok(search.limit.is_none())
 }
 
-/// Explores the cases of a file that are meant; says whether that came to its end.
-fn explore_file<R: Files + Print + Eprint + AllocGlobal>(
+/// Explores the cases that are meant; says whether that came to its end.
+pub fn explore_cases<R: Print + Eprint + AllocGlobal>(
     rt: &R,
     options: &Options<'_, '_>,
     file: &str,
+    cases: &[Case<'_>],
 ) -> io::Result<bool> {
-    let Some(text) = text_of(rt, file)? else {
-        return Ok(false);
-    };
     let mut is_whole = true;
-    match read(rt.alloc(), text.as_str()) {
-        Ok(cases) => {
-            for case in &cases {
-                if is_meant(options, case) {
-                    is_whole = is_whole & explore_case(rt, options, file, case)?;
-                }
-            }
+    for case in cases {
+        if is_meant(options, case) {
+            is_whole = is_whole & explore_case(rt, options, file, case)?;
         }
-        Err(fault) => {
-            eprintln!(rt; "{file}: {fault}")?;
-            is_whole = false;
-        }
-    }
-    Ok(is_whole)
-}
-
-/// Explores the cases of all files that are named.
-pub fn explore<R: Files + Print + Eprint + AllocGlobal>(
-    rt: &R,
-    options: &Options<'_, '_>,
-) -> io::Result<bool> {
-    let Some(files) = options.files() else {
-        return Ok(false);
-    };
-    let mut is_whole = true;
-    for file in files {
-        is_whole = is_whole & explore_file(rt, options, file)?;
     }
     Ok(is_whole)
 }

@@ -2,7 +2,7 @@
 
 use crate::command::Options;
 use mapworld::Step;
-use mapworld_explorer::{ExploreFault, Limit, Search};
+use mapworld_explorer::{ExploreFault, Limit, Outcome, Search};
 use mapworld_text::Case;
 use std::alloc::{AllocError, Global};
 use std::rt::Files;
@@ -35,18 +35,13 @@ pub fn meant<'c, 'a>(options: &Options<'_, '_>, cases: &'c [Case<'a>]) -> Option
     cases.iter().find(|case| is_meant(options, case))
 }
 
-/// Goes through all schedules of a case, and tells on standard error how far it is where that takes long.
-pub fn searched<'c, 'a, R: Eprint + AllocGlobal>(
+/// Goes on with a search to its end, and tells on standard error how far it is where that takes long.
+fn go_through<R: Eprint>(
     rt: &R,
-    options: &Options<'_, '_>,
-    case: &'c Case<'a>,
-) -> io::Result<Result<Search<'c, 'a>, ExploreFault>> {
-    let limits = options.limits();
-    let mut search = match Search::new(rt.alloc(), case, limits, !options.is_plain()) {
-        Ok(search) => search,
-        Err(fault) => return Ok(Err(fault)),
-    };
-    for _ in 0..=limits.states {
+    search: &mut Search<'_, '_>,
+    states: usize,
+) -> io::Result<Result<(), ExploreFault>> {
+    for _ in 0..=states {
         match search.go_on(VISITS) {
             Ok(true) => {
                 let states = search.states();
@@ -57,7 +52,23 @@ pub fn searched<'c, 'a, R: Eprint + AllocGlobal>(
             Err(fault) => return Ok(Err(fault)),
         }
     }
-    Ok(Ok(search))
+    Ok(Ok(()))
+}
+
+/// Goes through all schedules of a case.
+pub fn searched<'c, 'a, R: Eprint + AllocGlobal>(
+    rt: &R,
+    options: &Options<'_, '_>,
+    case: &'c Case<'a>,
+) -> io::Result<Result<Search<'c, 'a>, ExploreFault>> {
+    let limits = options.limits();
+    match Search::new(rt.alloc(), case, limits, !options.is_plain()) {
+        Ok(mut search) => match go_through(rt, &mut search, limits.states)? {
+            Ok(()) => Ok(Ok(search)),
+            Err(fault) => Ok(Err(fault)),
+        },
+        Err(fault) => Ok(Err(fault)),
+    }
 }
 
 /// What the limit is called that a search has met.
@@ -112,11 +123,22 @@ pub fn schedule_text(
     Ok(out)
 }
 
+/// How an outcome is written in a claim.
+pub fn outcome_text(
+    alloc: Global,
+    case: &Case<'_>,
+    outcome: &Outcome,
+) -> Result<String, AllocError> {
+    let mut text = String::new(alloc);
+    outcome.write(case, &mut text)?;
+    Ok(text)
+}
+
 /// The line that a file's name and a case's begin.
-pub fn write_title(file: &str, case: &Case<'_>, out: &mut String) -> Result<(), AllocError> {
-    out.push_str(file)?;
-    if case.name != "the only one" {
-        write!(out, ", `{}`", case.name)?;
+pub fn title_of(alloc: Global, file: &str, case: &Case<'_>) -> Result<String, AllocError> {
+    if case.name == "the only one" {
+        String::from_str(alloc, file)
+    } else {
+        format!(in alloc; "{file}, `{}`", case.name)
     }
-    Ok(())
 }

@@ -104,6 +104,20 @@ fn program_on<A: Allocator>(alloc: A, key: u64, calls: usize) -> Result<Program<
     Ok(program)
 }
 
+/// The programs of so many threads, each of so many calls.
+fn programs_of<A: Allocator + Copy>(
+    alloc: A,
+    threads: usize,
+    calls: usize,
+    keys: Keys,
+) -> Result<Vec<Program<A>, A>, AllocError> {
+    let mut programs = Vec::with_capacity(alloc, threads)?;
+    for thread in 0..threads {
+        programs.push(program_on(alloc, keys.key(thread), calls)?)?;
+    }
+    Ok(programs)
+}
+
 /// A world of so many threads, which share so many calls.
 pub fn world_of<A: Allocator + Copy + Drop>(
     alloc: A,
@@ -112,10 +126,7 @@ pub fn world_of<A: Allocator + Copy + Drop>(
     keys: Keys,
 ) -> Result<World<A>, Fault> {
     let each = calls.checked_div(threads).unwrap_or(0);
-    let mut programs = Vec::with_capacity(alloc, threads)?;
-    for thread in 0..threads {
-        programs.push(program_on(alloc, keys.key(thread), each)?)?;
-    }
+    let programs = programs_of(alloc, threads, each, keys)?;
     let hasher = Fold::new();
     Ok(MapWorld::new(alloc, keys.shards(), hasher, Vec::new(alloc), programs)?)
 }

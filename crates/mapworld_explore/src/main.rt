@@ -7,6 +7,7 @@
 mod check;
 mod column;
 mod command;
+mod each_file;
 mod explore;
 mod files;
 mod json;
@@ -19,17 +20,19 @@ mod time;
 mod why;
 
 use crate::command::{Options, command_line};
-use std::alloc::AllocError;
+use crate::each_file::{Work, each};
+use crate::why::Form;
+use clap::ArgMatches;
 use std::process::ExitCode;
 use std::{env, io};
 
 /// Does what the command line asks for; says whether all was as it is to be.
 fn obey(rt: &HostRuntime, name: &str, options: &Options<'_, '_>) -> io::Result<bool> {
     match name {
-        "run" => run::run(rt, options),
-        "explore" => explore::explore(rt, options),
-        "why" => why::why(rt, options),
-        "picture" => why::picture(rt, options),
+        "run" => each(rt, options, Work::Run),
+        "explore" => each(rt, options, Work::Explore),
+        "why" => each(rt, options, Work::Tell(Form::Words)),
+        "picture" => each(rt, options, Work::Tell(Form::Picture)),
         "time" => time::time(rt, options),
         _ => check::check(rt, options),
     }
@@ -43,16 +46,20 @@ fn start(rt: &HostRuntime) -> io::Result<ExitCode> {
 
 /// Does what the words of a command line ask for.
 fn follow<'a>(rt: &HostRuntime, words: &'a [String]) -> io::Result<ExitCode> {
-    let Ok(command) = command_line(rt.alloc()) else {
-        return Err(io::Error::from(AllocError));
-    };
-    let matches = match command.try_get_matches_from(words) {
-        Ok(matches) => matches,
-        Err(error) => {
-            error.print(rt)?;
-            return Ok(ExitCode::from(error.exit_code() as u8));
-        }
-    };
+    match command_line(rt.alloc()) {
+        Ok(command) => match command.try_get_matches_from(words) {
+            Ok(matches) => serve(rt, &matches),
+            Err(error) => {
+                error.print(rt)?;
+                Ok(ExitCode::from(error.exit_code() as u8))
+            }
+        },
+        Err(refused) => Err(io::Error::from(refused)),
+    }
+}
+
+/// Does what a command line asks for.
+fn serve(rt: &HostRuntime, matches: &ArgMatches<'_>) -> io::Result<ExitCode> {
     let Some((name, asked)) = matches.subcommand() else {
         return Ok(ExitCode::FAILURE);
     };

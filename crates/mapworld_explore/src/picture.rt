@@ -2,8 +2,8 @@
 
 use crate::column::write_columns;
 use crate::shapes::{
-    Anchor, DEFINITIONS, Written, width_of, write_box, write_dot, write_fitted, write_head,
-    write_line, write_plain, write_text,
+    Anchor, DEFINITIONS, HATCHED, Written, width_of, write_box, write_dot, write_fitted,
+    write_head, write_line, write_number, write_painted, write_plain, write_text, write_word,
 };
 use mapworld_explorer::{Bar, Course, Held, Sleep, Waking};
 use mapworld_text::Case;
@@ -35,6 +35,12 @@ ol{font-size:14px;line-height:1.5;padding-left:2.5em}
 .narrow{display:none}@media screen and (max-width:600px){.wide{display:none}.narrow{display:block}body{margin:16px}}
 @media print{svg{width:100%;height:auto}.wide{overflow:visible}}
 ";
+
+/// What is told below a picture.
+const KEY: &str =
+    "</div>\n<p>A bar is a call; a dot is where it counts as done, on the one plain map; \
+hatched, the thread sleeps; an arrow is a wake. Bands show who holds a shard, alone or \
+shared (dashed); below them stands the word of its lock.</p>\n";
 
 /// Where what is drawn stands.
 #[derive(Clone, Copy)]
@@ -75,23 +81,20 @@ impl Plan {
     }
 }
 
+/// The line of a step, and its number.
+fn write_step(plan: Plan, step: u64, height: u64, out: &mut String) -> Written {
+    let x = plan.x(step);
+    write_line((x, 32), (x, height), "grid", out)?;
+    write_number((x, 24), Anchor::Middle, "faint", "", step, out)
+}
+
 /// The numbers of the steps.
 fn write_axis(plan: Plan, height: u64, out: &mut String) -> Written {
-    write_text(
-        (LEFT.saturating_sub(12), 24),
-        Anchor::End,
-        "faint",
-        "step",
-        out,
-    )?;
+    let at = (LEFT.saturating_sub(12), 24);
+    write_text(at, Anchor::End, "faint", "step", out)?;
     for step in 0..=plan.steps {
         if step.checked_rem(5) == Some(0) {
-            let x = plan.x(step);
-            write_line((x, 32), (x, height), "grid", out)?;
-            write!(
-                out,
-                "<text x=\"{x}\" y=\"24\" text-anchor=\"middle\" class=\"faint\">{step}</text>\n"
-            )?;
+            write_step(plan, step, height, out)?;
         }
     }
     Ok(())
@@ -143,27 +146,21 @@ fn write_sleep(plan: Plan, sleep: &Sleep, out: &mut String) -> Written {
     let x = plan.x(sleep.start);
     let width = plan.x(sleep.end).saturating_sub(x);
     let y = plan.lane(sleep.thread);
-    write!(
-        out,
-        "<rect x=\"{x}\" y=\"{y}\" width=\"{width}\" height=\"{BAR_HEIGHT}\" fill=\"url(#hatch)\" stroke=\"#555\"/>\n"
-    )?;
+    write_painted((x, y), (width, BAR_HEIGHT), HATCHED, out)?;
     let middle = x.saturating_add(width.checked_div(2).unwrap_or(0));
     if width > 52 {
-        write!(
-            out,
-            "<rect x=\"{}\" y=\"{}\" width=\"46\" height=\"16\" fill=\"white\"/>\n",
-            middle.saturating_sub(23),
-            y.saturating_add(5)
-        )?;
-        return write_text(
-            (middle, y.saturating_add(17)),
-            Anchor::Middle,
-            "small",
-            "asleep",
-            out,
-        );
+        write_asleep(middle, y, out)
+    } else {
+        Ok(())
     }
-    Ok(())
+}
+
+/// The word in a sleep.
+fn write_asleep(middle: u64, y: u64, out: &mut String) -> Written {
+    let at = (middle.saturating_sub(23), y.saturating_add(5));
+    write_painted(at, (46, 16), "fill=\"white\"", out)?;
+    let at = (middle, y.saturating_add(17));
+    write_text(at, Anchor::Middle, "small", "asleep", out)
 }
 
 /// Who wakes whom.
@@ -178,7 +175,7 @@ fn write_waking(plan: Plan, waking: &Waking, out: &mut String) -> Written {
     }
 }
 
-/// Where calls count as done, and the contents.
+/// Where calls count as done.
 fn write_points(plan: Plan, course: &Course, out: &mut String) -> Written {
     let line = plan.contents();
     for point in &course.points {
@@ -188,27 +185,28 @@ fn write_points(plan: Plan, course: &Course, out: &mut String) -> Written {
         write_dot((x, y), point.thread, out)?;
     }
     write_line((LEFT, line), (plan.x(plan.steps), line), "axis", out)?;
-    write_text(
-        (LEFT.saturating_sub(12), line.saturating_add(16)),
-        Anchor::End,
-        "small",
-        "contents",
-        out,
-    )?;
+    let at = (LEFT.saturating_sub(12), line.saturating_add(16));
+    write_text(at, Anchor::End, "small", "contents", out)
+}
+
+/// The contents from a place on, and a tick above them.
+fn write_pairs(at: (u64, u64), line: u64, pairs: &str, out: &mut String) -> Written {
+    let (x, y) = at;
+    write_line((x, line), (x, y.saturating_sub(8)), "tick", out)?;
+    let at = (x.saturating_add(3), y);
+    write_text(at, Anchor::Start, "mono", pairs, out)
+}
+
+/// The contents, from where on they are so; each second one lower where there is no room.
+fn write_contents(plan: Plan, course: &Course, out: &mut String) -> Written {
+    let line = plan.contents();
     let mut free = 0;
     let mut below = 0;
     for (step, pairs) in &course.contents {
         let x = plan.x(*step);
         below = if x < free && below == 0 { 14 } else { 0 };
         let y = line.saturating_add(16).saturating_add(below);
-        write_line((x, line), (x, y.saturating_sub(8)), "tick", out)?;
-        write_text(
-            (x.saturating_add(3), y),
-            Anchor::Start,
-            "mono",
-            pairs.as_str(),
-            out,
-        )?;
+        write_pairs((x, y), line, pairs.as_str(), out)?;
         free = x.saturating_add(width_of(pairs.as_str())).saturating_add(8);
     }
     Ok(())
@@ -219,55 +217,92 @@ fn is_used(course: &Course, shard: usize) -> bool {
     course.holds.iter().any(|held| held.shard == shard)
 }
 
+/// Who holds a shard, and how.
+fn holder(alloc: Global, case: &Case<'_>, held: &Held) -> Result<String, AllocError> {
+    let mut text = String::from_str(alloc, case.name_of(held.thread))?;
+    text.push_str(if held.is_alone { " alone" } else { " shares" })?;
+    Ok(text)
+}
+
 /// A hold of a shard.
-fn write_hold(plan: Plan, case: &Case<'_>, held: &Held, y: u64, out: &mut String) -> Written {
+fn write_hold(
+    alloc: Global,
+    plan: Plan,
+    case: &Case<'_>,
+    held: &Held,
+    y: u64,
+    out: &mut String,
+) -> Written {
     let x = plan.x(held.start.saturating_sub(1));
     let width = plan.x(held.end).saturating_sub(x);
     let y = y.saturating_add(20_u64.saturating_mul(held.thread as u64));
     let class = if held.is_alone { "band" } else { "shared" };
     write_box((x, y), (width, 16), held.thread, class, out)?;
-    let mut text = String::new(out.allocator().clone()?);
-    text.push_str(case.name_of(held.thread))?;
-    text.push_str(if held.is_alone { " alone" } else { " shares" })?;
-    write_fitted(
-        (x.saturating_add(3), y.saturating_add(12)),
-        width.saturating_sub(5),
-        "small",
-        text.as_str(),
-        out,
-    )
+    let at = (x.saturating_add(3), y.saturating_add(12));
+    let text = holder(alloc, case, held)?;
+    write_fitted(at, width.saturating_sub(5), "small", text.as_str(), out)
 }
 
-/// The word of a shard's lock.
-fn write_words(plan: Plan, course: &Course, shard: usize, y: u64, out: &mut String) -> Written {
-    write_text(
-        (LEFT.saturating_sub(12), y),
-        Anchor::End,
-        "faint",
-        "word",
-        out,
-    )?;
-    for (of, step, word) in &course.words {
-        if *of == shard {
-            let x = plan.x(step.saturating_sub(1));
-            write_line(
-                (x, y.saturating_sub(10)),
-                (x, y.saturating_add(3)),
-                "tick",
-                out,
-            )?;
-            write!(
-                out,
-                "<text x=\"{}\" y=\"{y}\" class=\"tiny\">{word}</text>\n",
-                x.saturating_add(2)
-            )?;
+/// The holds of a shard.
+fn write_holds(
+    alloc: Global,
+    plan: Plan,
+    case: &Case<'_>,
+    course: &Course,
+    (shard, y): (usize, u64),
+    out: &mut String,
+) -> Written {
+    for held in &course.holds {
+        if held.shard == shard {
+            write_hold(alloc, plan, case, held, y, out)?;
         }
     }
     Ok(())
 }
 
-/// The shards that were held: by whom, and the words of their locks. Answers where the picture ends.
+/// The word of a lock from a place on, and a tick beside it.
+fn write_word_at(x: u64, y: u64, word: u64, out: &mut String) -> Written {
+    write_line(
+        (x, y.saturating_sub(10)),
+        (x, y.saturating_add(3)),
+        "tick",
+        out,
+    )?;
+    write_word((x.saturating_add(2), y), word, out)
+}
+
+/// The word of a shard's lock.
+fn write_words(plan: Plan, course: &Course, shard: usize, y: u64, out: &mut String) -> Written {
+    let at = (LEFT.saturating_sub(12), y);
+    write_text(at, Anchor::End, "faint", "word", out)?;
+    for (of, step, word) in &course.words {
+        if *of == shard {
+            write_word_at(plan.x(step.saturating_sub(1)), y, *word, out)?;
+        }
+    }
+    Ok(())
+}
+
+/// A shard from that height on: who held it, and the word of its lock. Answers where that ends.
+fn write_shard(
+    alloc: Global,
+    plan: Plan,
+    case: &Case<'_>,
+    course: &Course,
+    (shard, y): (usize, u64),
+    out: &mut String,
+) -> Result<u64, AllocError> {
+    let at = (LEFT.saturating_sub(12), y.saturating_add(12));
+    write_number(at, Anchor::End, "small", "shard ", shard as u64, out)?;
+    write_holds(alloc, plan, case, course, (shard, y), out)?;
+    let y = y.saturating_add(20_u64.saturating_mul(plan.threads as u64));
+    write_words(plan, course, shard, y.saturating_add(12), out)?;
+    Ok(y.saturating_add(34))
+}
+
+/// The shards that were held. Answers where the picture ends.
 fn write_shards(
+    alloc: Global,
     plan: Plan,
     case: &Case<'_>,
     course: &Course,
@@ -276,44 +311,49 @@ fn write_shards(
     let mut y = plan.contents().saturating_add(44);
     for shard in 0..case.shards {
         if is_used(course, shard) {
-            write!(
-                out,
-                "<text x=\"{}\" y=\"{}\" text-anchor=\"end\" class=\"small\">shard {shard}</text>\n",
-                LEFT.saturating_sub(12),
-                y.saturating_add(12)
-            )?;
-            for held in &course.holds {
-                if held.shard == shard {
-                    write_hold(plan, case, held, y, out)?;
-                }
-            }
-            y = y.saturating_add(20_u64.saturating_mul(plan.threads as u64));
-            write_words(plan, course, shard, y.saturating_add(12), out)?;
-            y = y.saturating_add(34);
+            y = write_shard(alloc, plan, case, course, (shard, y), out)?;
         }
     }
     Ok(y)
 }
 
-/// What is drawn of a course.
-fn write_picture(alloc: Global, case: &Case<'_>, course: &Course, out: &mut String) -> Written {
-    let plan = Plan::of(course, case.programs.len());
-    let mut shards = String::new(alloc);
-    let height = write_shards(plan, case, course, &mut shards)?;
-    let width = plan.width();
-    write_head(width, height, out)?;
-    write_axis(plan, height.saturating_sub(8), out)?;
-    write_lanes(plan, case, out)?;
+/// The calls and the sleeps.
+fn write_bars(plan: Plan, case: &Case<'_>, course: &Course, out: &mut String) -> Written {
     for bar in &course.bars {
         write_bar(plan, case, bar, out)?;
     }
     for sleep in &course.sleeps {
         write_sleep(plan, sleep, out)?;
     }
+    Ok(())
+}
+
+/// What is drawn of a course, above the shards: the picture is so high.
+fn write_course(
+    plan: Plan,
+    case: &Case<'_>,
+    course: &Course,
+    height: u64,
+    out: &mut String,
+) -> Written {
+    write_head(plan.width(), height, out)?;
+    write_axis(plan, height.saturating_sub(8), out)?;
+    write_lanes(plan, case, out)?;
+    write_bars(plan, case, course, out)?;
     write_points(plan, course, out)?;
+    write_contents(plan, course, out)?;
     for waking in &course.wakings {
         write_waking(plan, waking, out)?;
     }
+    Ok(())
+}
+
+/// What is drawn of a course.
+fn write_picture(alloc: Global, case: &Case<'_>, course: &Course, out: &mut String) -> Written {
+    let plan = Plan::of(course, case.programs.len());
+    let mut shards = String::new(alloc);
+    let height = write_shards(alloc, plan, case, course, &mut shards)?;
+    write_course(plan, case, course, height, out)?;
     out.push_str(shards.as_str())?;
     out.push_str("</svg>\n")
 }
@@ -329,6 +369,39 @@ fn write_told(course: &Course, out: &mut String) -> Written {
     out.push_str("</ol>\n")
 }
 
+/// The head of a page.
+fn write_page_head(case: &Case<'_>, heading: &str, out: &mut String) -> Written {
+    out.push_str("<!DOCTYPE html>\n<html lang=\"en\"><head><meta charset=\"utf-8\">")?;
+    out.push_str("<meta name=\"viewport\" content=\"width=device-width\"><title>")?;
+    write_plain(case.name, out)?;
+    out.push_str("</title><style>")?;
+    out.push_str(STYLE)?;
+    out.push_str("</style></head><body>\n<h1>")?;
+    write_plain(case.name, out)?;
+    out.push_str("</h1>\n<p>")?;
+    write_plain(heading, out)?;
+    out.push_str("</p>\n")?;
+    out.push_str(DEFINITIONS)
+}
+
+/// Writes a page that shows a schedule of a case, with that heading.
+fn write_page(
+    alloc: Global,
+    case: &Case<'_>,
+    heading: &str,
+    course: &Course,
+    out: &mut String,
+) -> Written {
+    write_page_head(case, heading, out)?;
+    out.push_str("<div class=\"wide\">\n")?;
+    write_picture(alloc, case, course, out)?;
+    out.push_str("</div>\n<div class=\"narrow\">\n")?;
+    write_columns(case, course, out)?;
+    out.push_str(KEY)?;
+    write_told(course, out)?;
+    out.push_str("</body></html>\n")
+}
+
 /// A page that shows a schedule of a case, with that heading.
 pub fn page(
     alloc: Global,
@@ -337,27 +410,6 @@ pub fn page(
     course: &Course,
 ) -> Result<String, AllocError> {
     let mut out = String::new(alloc);
-    out.push_str("<!DOCTYPE html>\n<html lang=\"en\"><head><meta charset=\"utf-8\">")?;
-    out.push_str("<meta name=\"viewport\" content=\"width=device-width\"><title>")?;
-    write_plain(case.name, &mut out)?;
-    write!(out, "</title><style>{STYLE}</style></head><body>\n<h1>")?;
-    write_plain(case.name, &mut out)?;
-    out.push_str("</h1>\n<p>")?;
-    write_plain(heading, &mut out)?;
-    out.push_str("</p>\n")?;
-    out.push_str(DEFINITIONS)?;
-    out.push_str("<div class=\"wide\">\n")?;
-    write_picture(alloc, case, course, &mut out)?;
-    out.push_str("</div>\n<div class=\"narrow\">\n")?;
-    write_columns(case, course, &mut out)?;
-    out.push_str(
-        "</div>\n<p>A bar is a call; a dot is where it counts as done, on the one plain map; ",
-    )?;
-    out.push_str(
-        "hatched, the thread sleeps; an arrow is a wake. Bands show who holds a shard, alone or ",
-    )?;
-    out.push_str("shared (dashed); below them stands the word of its lock.</p>\n")?;
-    write_told(course, &mut out)?;
-    out.push_str("</body></html>\n")?;
+    write_page(alloc, case, heading, course, &mut out)?;
     Ok(out)
 }

@@ -1,12 +1,11 @@
 //! Cases of a file by their own schedules.
 
 use crate::check::tell_failure;
-use crate::command::Options;
-use crate::files::{text_of, write_title};
+use crate::files::title_of;
 use mapworld_explorer::{Played, World, play_once};
-use mapworld_text::{Case, Shown, read};
+use mapworld_text::{Case, Shown};
+use std::alloc::{AllocError, Global};
 use std::io;
-use std::rt::Files;
 
 /// Tells what each call was answered.
 fn tell_replies<R: Print>(rt: &R, case: &Case<'_>, world: &World) -> io::Result<()> {
@@ -29,6 +28,22 @@ fn tell_blocks<R: Print>(rt: &R, case: &Case<'_>, world: &World) -> io::Result<(
     Ok(())
 }
 
+/// Tells who waits in a queue of a shard.
+fn tell_queue<R: Print>(
+    rt: &R,
+    case: &Case<'_>,
+    world: &World,
+    shard: usize,
+    queue: usize,
+) -> io::Result<()> {
+    if let Ok(threads) = world.queue(queue) {
+        for thread in &threads {
+            println!(rt; "  {} waits for shard {shard}", case.name_of(*thread))?;
+        }
+    }
+    Ok(())
+}
+
 /// Tells the words of locks that aren't free, and who waits there.
 fn tell_locks<R: Print>(rt: &R, case: &Case<'_>, world: &World) -> io::Result<()> {
     for shard in 0..world.shards() {
@@ -36,24 +51,26 @@ fn tell_locks<R: Print>(rt: &R, case: &Case<'_>, world: &World) -> io::Result<()
         if word != 0 {
             println!(rt; "  the word of shard {shard} is {word}")?;
         }
-        for queue in 0..2_usize {
-            if let Ok(threads) = world.queue(shard.saturating_mul(2).saturating_add(queue)) {
-                for thread in &threads {
-                    println!(rt; "  {} waits for shard {shard}", case.name_of(*thread))?;
-                }
-            }
-        }
+        let queue = shard.saturating_mul(2);
+        tell_queue(rt, case, world, shard, queue)?;
+        tell_queue(rt, case, world, shard, queue.saturating_add(1))?;
     }
     Ok(())
 }
 
-/// Tells the pairs of the map.
-fn tell_contents<R: Print + AllocGlobal>(rt: &R, world: &World) -> io::Result<()> {
-    let mut pairs: Vec<(u64, u64)> = Vec::new(rt.alloc());
+/// The pairs of the map, by their keys.
+fn sorted_pairs(alloc: Global, world: &World) -> Result<Vec<(u64, u64)>, AllocError> {
+    let mut pairs: Vec<(u64, u64)> = Vec::new(alloc);
     for (key, value) in world.pairs() {
         pairs.push((*key, *value))?;
     }
     pairs.sort_unstable();
+    Ok(pairs)
+}
+
+/// Tells the pairs of the map.
+fn tell_contents<R: Print + AllocGlobal>(rt: &R, world: &World) -> io::Result<()> {
+    let pairs = sorted_pairs(rt.alloc(), world)?;
     if pairs.is_empty() {
         return println!(rt; "  contents none");
     }
@@ -89,8 +106,7 @@ fn tell_played<R: Print + AllocGlobal>(
 
 /// Runs a case; says whether its own lines are so.
 fn run_case<R: Print + AllocGlobal>(rt: &R, file: &str, case: &Case<'_>) -> io::Result<bool> {
-    let mut title = String::new(rt.alloc());
-    write_title(file, case, &mut title)?;
+    let title = title_of(rt.alloc(), file, case)?;
     match play_once(rt.alloc(), case) {
         Ok(played) => tell_played(rt, file, case, title.as_str(), &played),
         Err(fault) => {
@@ -100,37 +116,15 @@ fn run_case<R: Print + AllocGlobal>(rt: &R, file: &str, case: &Case<'_>) -> io::
     }
 }
 
-/// Runs the cases of a file; says whether their own lines are so.
-fn run_file<R: Files + Print + Eprint + AllocGlobal>(rt: &R, file: &str) -> io::Result<bool> {
-    let Some(text) = text_of(rt, file)? else {
-        return Ok(false);
-    };
-    let mut is_so = true;
-    match read(rt.alloc(), text.as_str()) {
-        Ok(cases) => {
-            for case in &cases {
-                is_so = is_so & run_case(rt, file, case)?;
-            }
-        }
-        Err(fault) => {
-            eprintln!(rt; "{file}: {fault}")?;
-            is_so = false;
-        }
-    }
-    Ok(is_so)
-}
-
-/// Runs the cases of all files that are named.
-pub fn run<R: Files + Print + Eprint + AllocGlobal>(
+/// Runs cases; says whether their own lines are so.
+pub fn run_cases<R: Print + AllocGlobal>(
     rt: &R,
-    options: &Options<'_, '_>,
+    file: &str,
+    cases: &[Case<'_>],
 ) -> io::Result<bool> {
-    let Some(files) = options.files() else {
-        return Ok(false);
-    };
     let mut is_so = true;
-    for file in files {
-        is_so = is_so & run_file(rt, file)?;
+    for case in cases {
+        is_so = is_so & run_case(rt, file, case)?;
     }
     Ok(is_so)
 }

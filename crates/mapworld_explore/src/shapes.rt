@@ -16,13 +16,23 @@ patternUnits=\"userSpaceOnUse\" patternTransform=\"rotate(45)\"><rect width=\"6\
 <marker id=\"head\" viewBox=\"0 0 8 8\" refX=\"7\" refY=\"4\" markerWidth=\"7\" markerHeight=\"7\" orient=\"auto\">\
 <path d=\"M0 0L8 4L0 8z\"/></marker></defs></svg>\n";
 
+/// How a sleep is filled and bordered.
+pub const HATCHED: &str = "fill=\"url(#hatch)\" stroke=\"#555\"";
+
+/// Writes numbers of a shape under their names.
+fn write_numbers(numbers: &[(&str, u64)], out: &mut String) -> Written {
+    for (name, number) in numbers {
+        write!(out, " {name}=\"{number}\"")?;
+    }
+    Ok(())
+}
+
 /// The head of a picture of that size.
 pub fn write_head(width: u64, height: u64, out: &mut String) -> Written {
     out.push_str("<svg xmlns=\"http://www.w3.org/2000/svg\" role=\"img\"")?;
-    write!(
-        out,
-        " viewBox=\"0 0 {width} {height}\" width=\"{width}\" height=\"{height}\">\n"
-    )
+    write!(out, " viewBox=\"0 0 {width} {height}\"")?;
+    write_numbers(&[("width", width), ("height", height)], out)?;
+    out.push_str(">\n")
 }
 
 /// Where a text begins or ends.
@@ -65,6 +75,18 @@ pub fn write_plain(text: &str, out: &mut String) -> Written {
     Ok(())
 }
 
+/// The head of a text of a class at a place.
+fn write_text_head(at: (u64, u64), anchor: Anchor, class: &str, out: &mut String) -> Written {
+    let anchor = match anchor {
+        Anchor::Start => "start",
+        Anchor::Middle => "middle",
+        Anchor::End => "end",
+    };
+    out.push_str("<text")?;
+    write_numbers(&[("x", at.0), ("y", at.1)], out)?;
+    write!(out, " text-anchor=\"{anchor}\" class=\"{class}\">")
+}
+
 /// A text of a class at a place.
 pub fn write_text(
     at: (u64, u64),
@@ -73,18 +95,34 @@ pub fn write_text(
     text: &str,
     out: &mut String,
 ) -> Written {
-    let anchor = match anchor {
-        Anchor::Start => "start",
-        Anchor::Middle => "middle",
-        Anchor::End => "end",
-    };
-    write!(
-        out,
-        "<text x=\"{}\" y=\"{}\" text-anchor=\"{anchor}\" class=\"{class}\">",
-        at.0, at.1
-    )?;
+    write_text_head(at, anchor, class, out)?;
     write_plain(text, out)?;
     out.push_str("</text>\n")
+}
+
+/// A number of a class at a place, behind a word.
+pub fn write_number(
+    at: (u64, u64),
+    anchor: Anchor,
+    class: &str,
+    word: &str,
+    number: u64,
+    out: &mut String,
+) -> Written {
+    write_text_head(at, anchor, class, out)?;
+    write!(out, "{word}{number}</text>\n")
+}
+
+/// A text of a class at a place, without an anchor; of that length where one is told.
+fn write_fitted_head(at: (u64, u64), class: &str, room: Option<u64>, out: &mut String) -> Written {
+    out.push_str("<text")?;
+    write_numbers(&[("x", at.0), ("y", at.1)], out)?;
+    write!(out, " class=\"{class}\"")?;
+    if let Some(room) = room {
+        write_numbers(&[("textLength", room)], out)?;
+        out.push_str(" lengthAdjust=\"spacingAndGlyphs\"")?;
+    }
+    out.push_str(">")
 }
 
 /// A text that is no wider than that.
@@ -95,24 +133,43 @@ pub fn write_fitted(
     text: &str,
     out: &mut String,
 ) -> Written {
-    write!(out, "<text x=\"{}\" y=\"{}\" class=\"{class}\"", at.0, at.1)?;
-    if width_of(text) > room {
-        write!(
-            out,
-            " textLength=\"{room}\" lengthAdjust=\"spacingAndGlyphs\""
-        )?;
-    }
-    out.push_str(">")?;
+    let length = if width_of(text) > room {
+        Some(room)
+    } else {
+        None
+    };
+    write_fitted_head(at, class, length, out)?;
     write_plain(text, out)?;
     out.push_str("</text>\n")
 }
 
+/// The word of a lock at a place.
+pub fn write_word(at: (u64, u64), word: u64, out: &mut String) -> Written {
+    write_fitted_head(at, "tiny", None, out)?;
+    write!(out, "{word}</text>\n")
+}
+
 /// A line of a class from one place to another.
 pub fn write_line(from: (u64, u64), to: (u64, u64), class: &str, out: &mut String) -> Written {
-    write!(
+    out.push_str("<line")?;
+    write_numbers(
+        &[("x1", from.0), ("y1", from.1), ("x2", to.0), ("y2", to.1)],
         out,
-        "<line x1=\"{}\" y1=\"{}\" x2=\"{}\" y2=\"{}\" class=\"{class}\"/>\n",
-        from.0, from.1, to.0, to.1
+    )?;
+    write!(out, " class=\"{class}\"/>\n")
+}
+
+/// The head of a box: where it begins, how wide and high it is.
+fn write_box_head(at: (u64, u64), size: (u64, u64), out: &mut String) -> Written {
+    out.push_str("<rect")?;
+    write_numbers(
+        &[
+            ("x", at.0),
+            ("y", at.1),
+            ("width", size.0),
+            ("height", size.1),
+        ],
+        out,
     )
 }
 
@@ -124,21 +181,22 @@ pub fn write_box(
     class: &str,
     out: &mut String,
 ) -> Written {
+    write_box_head(at, size, out)?;
+    write!(out, " rx=\"3\" class=\"{class}\"")?;
     let colour = colour_of(thread);
-    write!(
-        out,
-        "<rect x=\"{}\" y=\"{}\" width=\"{}\" height=\"{}\" rx=\"3\" class=\"{class}\"",
-        at.0, at.1, size.0, size.1
-    )?;
     write!(out, " fill=\"{colour}\" stroke=\"{colour}\"/>\n")
+}
+
+/// A box that is painted so.
+pub fn write_painted(at: (u64, u64), size: (u64, u64), paint: &str, out: &mut String) -> Written {
+    write_box_head(at, size, out)?;
+    write!(out, " {paint}/>\n")
 }
 
 /// A dot of a thread's colour.
 pub fn write_dot(at: (u64, u64), thread: usize, out: &mut String) -> Written {
+    out.push_str("<circle")?;
+    write_numbers(&[("cx", at.0), ("cy", at.1)], out)?;
     let colour = colour_of(thread);
-    write!(
-        out,
-        "<circle cx=\"{}\" cy=\"{}\" r=\"6\" fill=\"{colour}\" stroke=\"white\"/>\n",
-        at.0, at.1
-    )
+    write!(out, " r=\"6\" fill=\"{colour}\" stroke=\"white\"/>\n")
 }

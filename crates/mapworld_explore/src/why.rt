@@ -1,21 +1,20 @@
 //! One schedule to an outcome, in words and as a picture.
 
 use crate::command::Options;
-use crate::files::{meant, searched, text_of};
+use crate::files::{meant, outcome_text, searched};
 use crate::late::with_late_starts;
 use crate::picture::page;
 use mapworld::Step;
 use mapworld_explorer::{
     Course, ExploreFault, Outcome, Search, course_of, is_so, outcome_behind, play_once,
 };
-use mapworld_text::{Case, Expected, read, terms};
+use mapworld_text::{Case, Expected, terms};
 use std::alloc::Global;
 use std::io;
-use std::rt::Files;
 
 /// How an outcome's schedule is told.
 #[derive(Clone, Copy, PartialEq, Eq)]
-enum Form {
+pub enum Form {
     Words,
     Picture,
 }
@@ -49,6 +48,23 @@ fn tell_course<R: Print>(rt: &R, course: &Course) -> io::Result<()> {
     Ok(())
 }
 
+/// Tells a course in words or as a picture, headed so.
+fn tell_headed<R: Print + AllocGlobal>(
+    rt: &R,
+    form: Form,
+    case: &Case<'_>,
+    heading: &str,
+    course: &Course,
+) -> io::Result<()> {
+    if form == Form::Picture {
+        let page = page(rt.alloc(), case, heading, course)?;
+        print!(rt; "{}", page.as_str())
+    } else {
+        println!(rt; "{heading}")?;
+        tell_course(rt, course)
+    }
+}
+
 /// Tells a schedule, which is headed so.
 fn tell_schedule<R: Print + Eprint + AllocGlobal>(
     rt: &R,
@@ -57,32 +73,16 @@ fn tell_schedule<R: Print + Eprint + AllocGlobal>(
     heading: &str,
     schedule: &[Step],
 ) -> io::Result<bool> {
-    let course = match course_of(rt.alloc(), case, schedule) {
-        Ok(course) => course,
+    match course_of(rt.alloc(), case, schedule) {
+        Ok(course) => {
+            tell_headed(rt, form, case, heading, &course)?;
+            Ok(true)
+        }
         Err(fault) => {
             eprintln!(rt; "{fault}")?;
-            return Ok(false);
+            Ok(false)
         }
-    };
-    if form == Form::Picture {
-        let page = page(rt.alloc(), case, heading, &course)?;
-        print!(rt; "{}", page.as_str())?;
-    } else {
-        println!(rt; "{heading}")?;
-        tell_course(rt, &course)?;
     }
-    Ok(true)
-}
-
-/// The steps of a shortest schedule to an outcome.
-fn schedule_to(
-    alloc: Global,
-    case: &Case<'_>,
-    search: &Search<'_, '_>,
-    outcome: &Outcome,
-) -> Result<Vec<Step>, ExploreFault> {
-    let schedule = search.schedule(outcome.state)?;
-    with_late_starts(alloc, case, &schedule)
 }
 
 /// Tells a case's own schedule.
@@ -101,7 +101,34 @@ fn tell_own<R: Print + Eprint + AllocGlobal>(
     }
 }
 
-/// Tells one schedule to an outcome, which is read off the world that this very schedule leads to.
+/// What an outcome's schedule is headed by: the outcome that is read off the world to which that very schedule leads.
+fn heading_of(
+    alloc: Global,
+    case: &Case<'_>,
+    schedule: &[Step],
+    number: usize,
+    outcomes: usize,
+) -> Result<String, ExploreFault> {
+    let led = outcome_behind(alloc, case, schedule)?;
+    let text = outcome_text(alloc, case, &led)?;
+    Ok(format!(in alloc; "outcome {number} of {outcomes}: {}", text.as_str())?)
+}
+
+/// A schedule to an outcome, and what it is headed by.
+fn told_schedule(
+    alloc: Global,
+    case: &Case<'_>,
+    search: &Search<'_, '_>,
+    outcome: &Outcome,
+    number: usize,
+) -> Result<(Vec<Step>, String), ExploreFault> {
+    let shortest = search.schedule(outcome.state)?;
+    let schedule = with_late_starts(alloc, case, &shortest)?;
+    let heading = heading_of(alloc, case, &schedule, number, search.outcomes.len())?;
+    Ok((schedule, heading))
+}
+
+/// Tells one schedule to an outcome.
 fn tell<R: Print + Eprint + AllocGlobal>(
     rt: &R,
     form: Form,
@@ -110,24 +137,51 @@ fn tell<R: Print + Eprint + AllocGlobal>(
     outcome: &Outcome,
     number: usize,
 ) -> io::Result<bool> {
-    let schedule = match schedule_to(rt.alloc(), case, search, outcome) {
-        Ok(schedule) => schedule,
+    match told_schedule(rt.alloc(), case, search, outcome, number) {
+        Ok((schedule, heading)) => tell_schedule(rt, form, case, heading.as_str(), &schedule),
         Err(fault) => {
             eprintln!(rt; "{fault}")?;
-            return Ok(false);
+            Ok(false)
         }
-    };
-    let led = match outcome_behind(rt.alloc(), case, &schedule) {
-        Ok(led) => led,
-        Err(fault) => {
-            eprintln!(rt; "{fault}")?;
-            return Ok(false);
+    }
+}
+
+/// Tells one schedule to the outcome of that index, if there is one.
+fn tell_indexed<R: Print + Eprint + AllocGlobal>(
+    rt: &R,
+    form: Form,
+    file: &str,
+    case: &Case<'_>,
+    search: &Search<'_, '_>,
+    index: Option<usize>,
+) -> io::Result<bool> {
+    if let Some(index) = index
+        && let Some(outcome) = search.outcomes.get(index)
+    {
+        return tell(rt, form, case, search, outcome, index.saturating_add(1));
+    }
+    let outcomes = search.outcomes.len();
+    eprintln!(rt; "{file}: none of the {outcomes} outcomes is that one")?;
+    Ok(false)
+}
+
+/// Finds the outcome that is meant among those of a search, and tells one schedule to it.
+fn tell_found<R: Print + Eprint + AllocGlobal>(
+    rt: &R,
+    form: Form,
+    file: &str,
+    case: &Case<'_>,
+    search: &Search<'_, '_>,
+    words: &[&str],
+) -> io::Result<bool> {
+    match outcome_by(rt.alloc(), case, search, words) {
+        Ok(index) => tell_indexed(rt, form, file, case, search, index),
+        Err(expected) => {
+            let words = expected.words();
+            eprintln!(rt; "expected the number of an outcome, or {words}")?;
+            Ok(false)
         }
-    };
-    let mut heading = String::new(rt.alloc());
-    write!(heading, "outcome {number} of {}: ", search.outcomes.len())?;
-    led.write(case, &mut heading)?;
-    tell_schedule(rt, form, case, heading.as_str(), &schedule)
+    }
 }
 
 /// Finds the outcome that is meant, and tells one schedule to it.
@@ -144,91 +198,28 @@ fn tell_case<R: Print + Eprint + AllocGlobal>(
     if let ["run"] = *words {
         return tell_own(rt, form, file, case);
     }
-    let search = match searched(rt, options, case)? {
-        Ok(search) => search,
+    match searched(rt, options, case)? {
+        Ok(search) => tell_found(rt, form, file, case, &search, words),
         Err(fault) => {
             eprintln!(rt; "{file}: {fault}")?;
-            return Ok(false);
-        }
-    };
-    let index = match outcome_by(rt.alloc(), case, &search, words) {
-        Ok(index) => index,
-        Err(expected) => {
-            eprintln!(rt;
-                "expected the number of an outcome, or {}",
-                expected.words()
-            )?;
-            return Ok(false);
-        }
-    };
-    let outcome = match index {
-        Some(index) => search.outcomes.get(index),
-        None => None,
-    };
-    match (outcome, index) {
-        (Some(outcome), Some(index)) => {
-            tell(rt, form, case, &search, outcome, index.saturating_add(1))
-        }
-        _ => {
-            let outcomes = search.outcomes.len();
-            eprintln!(rt; "{file}: none of the {outcomes} outcomes is that one")?;
             Ok(false)
         }
     }
 }
 
-/// Tells one schedule to an outcome of a file's case.
-fn tell_file<R: Files + Print + Eprint + AllocGlobal>(
+/// Tells one schedule to an outcome of the case that is meant.
+pub fn tell_meant<R: Print + Eprint + AllocGlobal>(
     rt: &R,
     options: &Options<'_, '_>,
     form: Form,
     file: &str,
+    cases: &[Case<'_>],
 ) -> io::Result<bool> {
-    let Some(text) = text_of(rt, file)? else {
-        return Ok(false);
-    };
-    let cases = match read(rt.alloc(), text.as_str()) {
-        Ok(cases) => cases,
-        Err(fault) => {
-            eprintln!(rt; "{file}: {fault}")?;
-            return Ok(false);
-        }
-    };
-    match meant(options, &cases) {
+    match meant(options, cases) {
         Some(case) => tell_case(rt, options, form, file, case),
         None => {
             eprintln!(rt; "{file}: no such case")?;
             Ok(false)
         }
     }
-}
-
-/// Tells one schedule to an outcome in words.
-pub fn why<R: Files + Print + Eprint + AllocGlobal>(
-    rt: &R,
-    options: &Options<'_, '_>,
-) -> io::Result<bool> {
-    let Some(files) = options.files() else {
-        return Ok(false);
-    };
-    let mut is_told = true;
-    for file in files {
-        is_told = is_told & tell_file(rt, options, Form::Words, file)?;
-    }
-    Ok(is_told)
-}
-
-/// Draws one schedule to an outcome.
-pub fn picture<R: Files + Print + Eprint + AllocGlobal>(
-    rt: &R,
-    options: &Options<'_, '_>,
-) -> io::Result<bool> {
-    let Some(files) = options.files() else {
-        return Ok(false);
-    };
-    let mut is_told = true;
-    for file in files {
-        is_told = is_told & tell_file(rt, options, Form::Picture, file)?;
-    }
-    Ok(is_told)
 }

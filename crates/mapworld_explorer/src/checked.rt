@@ -14,13 +14,21 @@ pub struct Broken {
     pub outcome: Option<usize>,
 }
 
-/// Whether the text has these words, in any case of their letters.
-fn is_text(found: &str, want: &[&str]) -> bool {
+/// Whether a word is the one that is wanted; in any case of its letters, where that is said.
+fn is_word(found: &str, wanted: Option<&&str>, any_case: bool) -> bool {
+    match wanted {
+        Some(wanted) if any_case => wanted.eq_ignore_ascii_case(found),
+        Some(wanted) => *wanted == found,
+        None => false,
+    }
+}
+
+/// Whether the text is these words; in any case of their letters, where that is said.
+pub(crate) fn is_text(found: &str, want: &[&str], any_case: bool) -> bool {
     let mut count: usize = 0;
     for word in found.split_whitespace() {
-        match want.get(count) {
-            Some(wanted) if wanted.eq_ignore_ascii_case(word) => {}
-            _ => return false,
+        if !is_word(word, want.get(count), any_case) {
+            return false;
         }
         count = count.saturating_add(1);
     }
@@ -30,9 +38,9 @@ fn is_text(found: &str, want: &[&str]) -> bool {
 /// Whether a part of a claim is so of an outcome.
 fn is_part(outcome: &Outcome, term: &Term<'_>) -> bool {
     match term.part {
-        Part::Contents => is_text(outcome.contents.as_str(), &term.want),
+        Part::Contents => is_text(outcome.contents.as_str(), &term.want, true),
         Part::Answer(thread, call) => match outcome.answer(thread, call) {
-            Some(text) => is_text(text, &term.want),
+            Some(text) => is_text(text, &term.want, true),
             None => false,
         },
     }

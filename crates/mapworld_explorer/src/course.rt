@@ -1,14 +1,14 @@
 //! One schedule, step by step, with all that is seen on the way.
 ghost use Rattle.std.specs.Prelude.{◌≡◌, map, IfOk};
 
-use crate::reading::contents_of;
+use crate::reading::{Replied, contents_of};
 use crate::standing::kind_of;
 use crate::told::Before;
-use crate::worlds::{ExploreFault, World, world_behind};
+use crate::worlds::{ExploreFault, World, go, world_behind};
 use lock_api_desk::Mode;
-use mapworld::{Status, Step};
+use mapworld::{Block, Status, Step};
 use mapworld_text::{Case, Shown};
-use std::alloc::Global;
+use std::alloc::{AllocError, Global};
 
 /// A call, from its start to its answer.
 #[derive(Drop)]
@@ -78,6 +78,9 @@ pub struct Course {
     pub told: Vec<Told>,
 }
 
+/// What is noted, unless room is refused.
+type Noted = Result<(), AllocError>;
+
 impl Course {
     fn new(alloc: Global) -> Course {
         Course {
@@ -95,9 +98,8 @@ impl Course {
     }
 
     /// Notes where a thread's sleep begins and ends, behind a step of that thread or another.
-    fn note_sleep(&mut self, world: &World, thread: usize, by: usize) -> Result<(), ExploreFault> {
+    fn note_sleep(&mut self, thread: usize, is_asleep: bool, by: usize) -> Noted {
         let step = self.steps;
-        let is_asleep = world.status(thread) == Status::Asleep;
         let mut is_open = false;
         let mut is_woken = false;
         for sleep in &mut self.sleeps {
@@ -124,14 +126,8 @@ impl Course {
     }
 
     /// Notes where a thread's hold of a shard begins and ends.
-    fn note_hold(
-        &mut self,
-        world: &World,
-        thread: usize,
-        shard: usize,
-    ) -> Result<(), ExploreFault> {
+    fn note_hold(&mut self, thread: usize, shard: usize, mode: Option<Mode>) -> Noted {
         let step = self.steps;
-        let mode = world.hold(thread, shard);
         let is_alone = mode == Some(Mode::Exclusive);
         let mut goes_on = false;
         for held in &mut self.holds {
@@ -156,8 +152,7 @@ impl Course {
     }
 
     /// Notes the word of a shard, if it is another.
-    fn note_word(&mut self, world: &World, shard: usize) -> Result<(), ExploreFault> {
-        let word = world.word(shard);
+    fn note_word(&mut self, shard: usize, word: u64) -> Noted {
         let last = self.words.iter().rev().find(|noted| noted.0 == shard);
         let is_new = match last {
             Some(noted) => noted.2 != word,
@@ -171,8 +166,7 @@ impl Course {
     }
 
     /// Notes the pairs, if they are others.
-    fn note_contents(&mut self, world: &World) -> Result<(), ExploreFault> {
-        let text = contents_of(self.alloc, world)?;
+    fn note_contents(&mut self, text: String) -> Noted {
         let is_new = match self.contents.last() {
             Some(noted) => noted.1.as_str() != text.as_str(),
             None => true,
@@ -185,18 +179,19 @@ impl Course {
     }
 
     /// Notes what is seen behind a step of a thread.
-    fn note(&mut self, world: &World, by: usize) -> Result<(), ExploreFault> {
+    fn note(&mut self, world: &World, by: usize) -> Noted {
         self.steps = world.steps();
         for thread in 0..world.threads() {
-            self.note_sleep(world, thread, by)?;
+            let is_asleep = world.status(thread) == Status::Asleep;
+            self.note_sleep(thread, is_asleep, by)?;
             for shard in 0..world.shards() {
-                self.note_hold(world, thread, shard)?;
+                self.note_hold(thread, shard, world.hold(thread, shard))?;
             }
         }
         for shard in 0..world.shards() {
-            self.note_word(world, shard)?;
+            self.note_word(shard, world.word(shard))?;
         }
-        self.note_contents(world)
+        self.note_contents(contents_of(self.alloc, world)?)
     }
 
     /// Makes a step, notes what is seen behind it, and tells what it was.
@@ -204,7 +199,7 @@ impl Course {
         ensures { IfOk result (λ told. told.thread ≡ step.thread) }
     {
         let before = Before::of(world, case, step);
-        world.run(&[step])?;
+        go(world, &[step])?;
         let mut text = String::new(self.alloc);
         before.write(world, case, &mut text)?;
         self.note(world, step.thread)?;
@@ -215,17 +210,21 @@ impl Course {
         })
     }
 
-    /// Notes the calls and from where on they count as done.
-    fn end(&mut self, world: &World) -> Result<(), ExploreFault> {
-        for block in world.blocks() {
+    /// Notes from where on calls count as done.
+    fn note_points(&mut self, blocks: &[Block<u64>]) -> Noted {
+        for block in blocks {
             self.points.push(Point {
                 thread: block.thread,
                 step: block.position,
             })?;
         }
-        for reply in world.replies() {
-            let mut answer = String::new(self.alloc);
-            write!(answer, "{}", Shown(&reply.answer))?;
+        Ok(())
+    }
+
+    /// Notes the calls.
+    fn note_bars(&mut self, replies: &[Replied]) -> Noted {
+        for reply in replies {
+            let answer = format!(in self.alloc; "{}", Shown(&reply.answer))?;
             self.bars.push(Bar {
                 thread: reply.thread,
                 call: reply.call,
@@ -258,7 +257,8 @@ pub fn course_of(alloc: Global, case: &Case<'_>, schedule: &[Step]) -> Result<Co
     for step in schedule {
         told.push(course.make(&mut world, case, *step)?)?;
     }
-    course.end(&world)?;
+    course.note_points(world.blocks())?;
+    course.note_bars(world.replies())?;
     course.told = told;
     Ok(course)
 }

@@ -4,7 +4,7 @@ use mapworld_text::Case;
 use std::alloc::AllocError;
 
 /// What is written.
-type Written = Result<(), AllocError>;
+pub(crate) type Written = Result<(), AllocError>;
 
 /// What a call is answered, as it is written in a text.
 #[derive(Drop)]

@@ -1,9 +1,10 @@
 //! How a case is played: in each way that it may be, line by line.
 
+use crate::checked::is_text;
 use crate::search::plain;
 use crate::seen::write_seen;
 use crate::traced::Traced;
-use crate::worlds::{calls_of, world_of};
+use crate::worlds::{calls_of, go, world_of};
 use mapworld::WorldNewFault;
 use mapworld_text::{Case, Line, Order, View};
 use std::alloc::{AllocError, Global};
@@ -42,18 +43,6 @@ pub struct Failure {
     pub found: String,
 }
 
-/// Whether the text is these words.
-fn is_text(found: &str, want: &[&str]) -> bool {
-    let mut count: usize = 0;
-    for word in found.split_whitespace() {
-        if want.get(count).copied() != Some(word) {
-            return false;
-        }
-        count = count.saturating_add(1);
-    }
-    count == want.len()
-}
-
 /// Runs one step of each of these threads, and writes how that is answered.
 fn write_run(traced: &mut Traced, threads: &[usize], out: &mut String) -> Result<(), AllocError> {
     let mut steps = Vec::with_capacity(traced.alloc, threads.len())?;
@@ -61,7 +50,7 @@ fn write_run(traced: &mut Traced, threads: &[usize], out: &mut String) -> Result
         steps.push(plain(*thread))?;
     }
     let before = traced.world.steps();
-    match traced.world.run(&steps) {
+    match go(&mut traced.world, &steps) {
         Ok(()) => out.push_str("done"),
         Err(fault) => {
             let made = traced.world.steps().saturating_sub(before);
@@ -84,7 +73,7 @@ fn step_until(
     for _ in 0..50 {
         let mut found = String::new(traced.alloc);
         write_seen(traced, case, view, &mut found)?;
-        if is_text(found.as_str(), want) {
+        if is_text(found.as_str(), want, false) {
             return Ok(true);
         }
         let _ = traced.step(thread, false)?;
@@ -101,19 +90,7 @@ fn ends(traced: &mut Traced, case: &Case<'_>, ending: Ending) -> Result<bool, Al
     Ok(is_done && traced.is_at_rest(calls_of(case)))
 }
 
-/// Whether that is seen; it is written, too. A drain's words aren't seen one by one.
-fn is_seen(
-    traced: &Traced,
-    case: &Case<'_>,
-    view: View,
-    line: &Line<'_>,
-    found: &mut String,
-) -> Result<bool, AllocError> {
-    write_seen(traced, case, view, found)?;
-    Ok(is_text(found.as_str(), &line.want))
-}
-
-/// Whether a line is carried out, or what it says is seen. What is found instead is written.
+/// Whether a line is carried out or seen; what is found instead is written. A drain's words aren't seen one by one.
 fn holds(
     traced: &mut Traced,
     case: &Case<'_>,
@@ -132,10 +109,13 @@ fn holds(
         Order::Drain => traced.drains(),
         Order::Run => {
             write_run(traced, &line.threads, found)?;
-            Ok(is_text(found.as_str(), &line.want))
+            Ok(is_text(found.as_str(), &line.want, false))
         }
         Order::Expect(View::Words(_)) if ending == Ending::Drain => Ok(true),
-        Order::Expect(view) => is_seen(traced, case, view, line, found),
+        Order::Expect(view) => {
+            write_seen(traced, case, view, found)?;
+            Ok(is_text(found.as_str(), &line.want, false))
+        }
         Order::Through(thread) => traced.step_through(thread),
         Order::Deadline(thread) => traced.deadline(thread),
         Order::Claim(_) => Ok(true),
@@ -159,6 +139,11 @@ pub(crate) fn failure_on(
     Ok(None)
 }
 
+/// Whether a line says that a world isn't made, and why.
+fn tells(line: &Line<'_>, fault: WorldNewFault) -> bool {
+    matches!(line.order, Order::Expect(View::World)) && is_text(fault.name(), &line.want, false)
+}
+
 /// What is wrong with a world that isn't made: its lines may only say why.
 fn failure_without(
     alloc: Global,
@@ -166,22 +151,13 @@ fn failure_without(
     way: Way,
     fault: WorldNewFault,
 ) -> Result<Option<Failure>, AllocError> {
-    let mut is_told = false;
-    for (line, told) in case.lines.iter().enumerate() {
-        is_told = matches!(told.order, Order::Expect(View::World))
-            && is_text(fault.name(), &told.want);
-        if !is_told {
-            let found = String::from_str(alloc, fault.name())?;
-            return Ok(Some(Failure { line, way, found }));
-        }
+    let other = case.lines.iter().position(|line| !tells(line, fault));
+    if other.is_none() && !case.lines.is_empty() {
+        return Ok(None);
     }
+    let line = other.unwrap_or(0);
     let found = String::from_str(alloc, fault.name())?;
-    let line = case.lines.len();
-    Ok(if is_told {
-        None
-    } else {
-        Some(Failure { line, way, found })
-    })
+    Ok(Some(Failure { line, way, found }))
 }
 
 /// Plays a case in one way.

@@ -5,7 +5,7 @@ use crate::traced::Traced;
 use crate::worlds::{ExploreFault, World, world_behind};
 use mapworld::Step;
 use mapworld_text::{Case, Order};
-use std::alloc::Global;
+use std::alloc::{AllocError, Global};
 
 /// A world behind the schedule of its case.
 #[derive(Drop)]
@@ -22,18 +22,27 @@ fn has_schedule(case: &Case<'_>) -> bool {
     case.lines.iter().any(|line| !matches!(line.order, Order::Expect(_) | Order::Claim(_)))
 }
 
+/// Plays a case on its world, by its own lines; without any, by steps of its threads in turn.
+fn failure_in(
+    traced: &mut Traced,
+    case: &Case<'_>,
+    way: Way,
+) -> Result<Option<Failure>, AllocError> {
+    if !has_schedule(case) {
+        let _ = traced.step_round()?;
+    }
+    failure_on(traced, case, way)
+}
+
 /// Plays a case once, by its own lines; without any, by steps of its threads in turn.
 pub fn play_once(alloc: Global, case: &Case<'_>) -> Result<Played, ExploreFault> {
-    let world = world_behind(alloc, case, &[])?;
     let way = Way {
         ending: Ending::Round,
         fair: bits_of(&case.fair, u64::MAX),
     };
+    let world = world_behind(alloc, case, &[])?;
     let mut traced = Traced::new(alloc, world, case.shards, way.fair);
-    if !has_schedule(case) {
-        let _ = traced.step_round()?;
-    }
-    let failure = failure_on(&mut traced, case, way)?;
+    let failure = failure_in(&mut traced, case, way)?;
     let Traced { world, made, .. } = traced;
     Ok(Played {
         world,

@@ -7,7 +7,7 @@ ghost use Rattle.mapworld_explorer.specs.Outcomes.{of_thread, AreReadsWritten, A
 ghost use Rattle.mapworld_explorer.specs.Outcomes.{IsContentsText, IsOutcomeBy, IsOutcomeOf, IsReplyTold};
 ghost use Rattle.mapworld_explorer.specs.Standing.{HasEnded};
 
-use crate::outcome::{Answering, Outcome};
+use crate::outcome::{Answering, Outcome, Written};
 use crate::standing::has_ended;
 use crate::worlds::{ExploreFault, World, world_behind};
 use mapworld::{Answer, Reply, SpreadHasher, SpreadState, Step};
@@ -16,11 +16,8 @@ use mapworld_text::{Answered, Case, Change, Pairs, Shown};
 use std::alloc::{AllocError, Global};
 use std::hash::{BuildHasher, Hash, Hasher};
 
-/// What is written.
-type Written = Result<(), AllocError>;
-
 /// A call's answer in a world of a case.
-type Replied = Reply<u64, u64, (u64, u64), Global>;
+pub(crate) type Replied = Reply<u64, u64, (u64, u64), Global>;
 
 /// Writes what a walk has read. The order within a shard is open, so pairs stand by their keys.
 fn write_reads(alloc: Global, reads: &[(u64, u64)], out: &mut String) -> Written

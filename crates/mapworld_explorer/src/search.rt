@@ -4,7 +4,7 @@ use crate::outcome::Outcome;
 use crate::standing::{has_ended, is_alone, may_be_fair};
 use crate::state::{Ahead, ahead_of};
 use crate::waits::Waits;
-use crate::worlds::{ExploreFault, World, world_behind};
+use crate::worlds::{ExploreFault, World, go, world_behind};
 use mapworld::Step;
 use mapworld_text::Case;
 use std::alloc::{AllocError, Global};
@@ -56,13 +56,18 @@ pub struct Search<'c, 'a> {
     pub limit: Option<Limit>,
 }
 
-/// A step of a thread's own that isn't fair.
-pub(crate) fn plain(thread: usize) -> Step {
+/// A step of a thread, or its deadline.
+pub(crate) fn step_by(thread: usize, fair: bool, deadline: bool) -> Step {
     Step {
         thread,
-        fair: false,
-        deadline: false,
+        fair,
+        deadline,
     }
+}
+
+/// A step of a thread's own that isn't fair.
+pub(crate) fn plain(thread: usize) -> Step {
+    step_by(thread, false, false)
 }
 
 impl<'c, 'a> Search<'c, 'a> {
@@ -90,14 +95,20 @@ impl<'c, 'a> Search<'c, 'a> {
             outcomes: Vec::new(alloc),
             limit: None,
         };
-        let world = world_behind(alloc, case, &[])?;
+        search.begin()?;
+        Ok(search)
+    }
+
+    /// Notes the state at the beginning.
+    fn begin(&mut self) -> Result<(), ExploreFault> {
         let first = Reached {
             before: 0,
             step: plain(0),
             steps: 0,
         };
-        let _ = search.reach(&world, first)?;
-        Ok(search)
+        let world = world_behind(self.alloc, self.case, &[])?;
+        let _ = self.reach(&world, first)?;
+        Ok(())
     }
 
     /// How many states were found so far.
@@ -186,40 +197,55 @@ impl<'c, 'a> Search<'c, 'a> {
         Ok(Some(index))
     }
 
-    /// Makes each step that can be made from a state.
+    /// Visits a state: makes each step that can be made from there, or notes what it comes to.
     fn visit(&mut self, index: usize, reached: Reached) -> Result<(), ExploreFault> {
         let schedule = self.schedule(index)?;
-        let world = world_behind(self.alloc, self.case, &schedule)?;
+        let mut world = world_behind(self.alloc, self.case, &schedule)?;
         if has_ended(&world) {
             return self.end(&world, index, reached.steps);
         }
-        let steps = self.steps_from(&world)?;
         if reached.steps >= self.limits.steps {
             self.limit = Some(Limit::Steps);
             return Ok(());
         }
-        let mut at_hand = Some(world);
-        for step in &steps {
-            let next = Reached {
-                before: index,
-                step: *step,
-                steps: reached.steps.saturating_add(1),
-            };
-            let world = match at_hand.take() {
-                Some(world) => world,
-                None => world_behind(self.alloc, self.case, &schedule)?,
-            };
-            self.make(world, next)?;
+        let steps = self.steps_from(&world)?;
+        let next = (index, reached.steps.saturating_add(1));
+        if let [first, rest @ ..] = steps.as_slice() {
+            self.make(&mut world, next, *first)?;
+            self.make_anew(&schedule, next, rest)?;
         }
         Ok(())
     }
 
-    /// Makes a step.
-    fn make(&mut self, world: World, next: Reached) -> Result<(), ExploreFault> {
-        let mut world = world;
-        world.run(&[next.step])?;
-        if let Some(index) = self.reach(&world, next)? {
-            self.waits.note_way(next.before, index)?;
+    /// Makes each of these steps behind a schedule, which leads to that state; they are so many in all.
+    fn make_anew(
+        &mut self,
+        schedule: &[Step],
+        next: (usize, usize),
+        steps: &[Step],
+    ) -> Result<(), ExploreFault> {
+        for step in steps {
+            let mut world = world_behind(self.alloc, self.case, schedule)?;
+            self.make(&mut world, next, *step)?;
+        }
+        Ok(())
+    }
+
+    /// Makes a step in the world of that state, which is the last of so many.
+    fn make(
+        &mut self,
+        world: &mut World,
+        (before, steps): (usize, usize),
+        step: Step,
+    ) -> Result<(), ExploreFault> {
+        go(world, &[step])?;
+        let next = Reached {
+            before,
+            step,
+            steps,
+        };
+        if let Some(index) = self.reach(world, next)? {
+            self.waits.note_way(before, index)?;
         }
         Ok(())
     }
@@ -245,21 +271,24 @@ impl<'c, 'a> Search<'c, 'a> {
             if world.can_move(thread) {
                 steps.push(plain(thread))?;
                 if may_be_fair(world, thread) {
-                    steps.push(Step {
-                        thread,
-                        fair: true,
-                        deadline: false,
-                    })?;
+                    steps.push(step_by(thread, true, false))?;
                 }
             } else if world.locks().may_expire(thread) {
-                steps.push(Step {
-                    thread,
-                    fair: false,
-                    deadline: true,
-                })?;
+                steps.push(step_by(thread, false, true))?;
             }
         }
         Ok(steps)
+    }
+
+    /// Counts one more end of an outcome that is known; says whether it is.
+    fn is_known(&mut self, outcome: &Outcome) -> bool {
+        for known in &mut self.outcomes {
+            if known.is(outcome) {
+                known.ends = known.ends.saturating_add(1);
+                return true;
+            }
+        }
+        false
     }
 
     /// Notes what an end comes to.
@@ -268,13 +297,9 @@ impl<'c, 'a> Search<'c, 'a> {
     {
         self.ends = self.ends.saturating_add(1);
         let outcome = Outcome::of(self.alloc, world, state, steps)?;
-        for known in &mut self.outcomes {
-            if known.is(&outcome) {
-                known.ends = known.ends.saturating_add(1);
-                return Ok(());
-            }
+        if !self.is_known(&outcome) {
+            self.outcomes.push(outcome)?;
         }
-        self.outcomes.push(outcome)?;
         Ok(())
     }
 }

@@ -1,32 +1,30 @@
 //! What is seen of a world, as it is written in a text.
 
+use crate::outcome::Written;
+use crate::reading::Replied;
 use crate::traced::Traced;
 use crate::worlds::World;
-use mapworld::{Answer, Status};
+use mapworld::{Answer, Block, Status};
 use mapworld_text::{Case, Shown, View};
 use std::alloc::AllocError;
+use std::fmt;
 
-/// What is written.
-type Written = Result<(), AllocError>;
-
-/// A word for yes and no.
-fn yes_or_no(is_so: bool) -> &'static str {
-    if is_so { "yes" } else { "no" }
+fn write_it(shown: &impl fmt::Display, out: &mut String) -> Written {
+    write!(out, "{shown}")
 }
 
-fn write_reply(world: &World, thread: usize, call: usize, out: &mut String) -> Written {
-    let found = world
-        .replies()
+fn write_reply(replies: &[Replied], thread: usize, call: usize, out: &mut String) -> Written {
+    let found = replies
         .iter()
         .find(|reply| reply.thread == thread && reply.call == call);
     match found {
-        Some(reply) => write!(out, "{}", Shown(&reply.answer)),
+        Some(reply) => write_it(&Shown(&reply.answer), out),
         None => out.push_str("unanswered"),
     }
 }
 
-fn write_block(world: &World, of: (usize, usize, usize), out: &mut String) -> Written {
-    let found = world.blocks().iter().find(|block| block.thread == of.0
+fn write_block(blocks: &[Block<u64>], of: (usize, usize, usize), out: &mut String) -> Written {
+    let found = blocks.iter().find(|block| block.thread == of.0
         && block.call == of.1
         && block.visit == of.2);
     match found {
@@ -42,41 +40,35 @@ fn write_block(world: &World, of: (usize, usize, usize), out: &mut String) -> Wr
 }
 
 /// How many blocks of a thread's call there are.
-fn blocks_of(world: &World, thread: usize, call: usize) -> usize {
-    world
-        .blocks()
+fn blocks_of(blocks: &[Block<u64>], thread: usize, call: usize) -> usize {
+    blocks
         .iter()
         .filter(|block| block.thread == thread && block.call == call)
         .count()
 }
 
 /// How many pairs a walk was answered.
-fn write_items(world: &World, thread: usize, call: usize, out: &mut String) -> Written {
-    for reply in world.replies() {
+fn write_items(replies: &[Replied], thread: usize, call: usize, out: &mut String) -> Written {
+    for reply in replies {
         if reply.thread == thread
             && reply.call == call
             && let Answer::Reads(reads) = &reply.answer
         {
-            return write!(out, "{}", reads.len());
+            return write_it(&reads.len(), out);
         }
     }
     out.push_str("none")
 }
 
 /// How many pairs have that value.
-fn having(world: &World, value: u64) -> usize {
-    let mut count: usize = 0;
-    for (_, other) in world.pairs() {
-        if *other == value {
-            count = count.saturating_add(1);
-        }
-    }
-    count
+fn having(traced: &Traced, value: u64) -> Result<usize, AllocError> {
+    let pairs = pairs_of(traced)?;
+    Ok(pairs.iter().filter(|pair| pair.1 == value).count())
 }
 
 fn write_pair(world: &World, key: u64, out: &mut String) -> Written {
     match world.pair(&key) {
-        Some(pair) if *pair.0 == key => write!(out, "{}", pair.1),
+        Some(pair) if *pair.0 == key => write_it(pair.1, out),
         Some(_) => out.push_str("the pair of another key"),
         None => out.push_str("none"),
     }
@@ -135,17 +127,21 @@ fn write_words(traced: &Traced, shard: usize, out: &mut String) -> Written {
     Ok(())
 }
 
-fn write_queue(world: &World, case: &Case<'_>, key: usize, out: &mut String) -> Written {
-    let Ok(threads) = world.queue(key) else {
-        return Err(AllocError);
-    };
+fn write_names(case: &Case<'_>, threads: &[usize], out: &mut String) -> Written {
     if threads.is_empty() {
         return out.push_str("nobody");
     }
-    for thread in &threads {
+    for thread in threads {
         write!(out, " {}", case.name_of(*thread))?;
     }
     Ok(())
+}
+
+fn write_queue(world: &World, case: &Case<'_>, key: usize, out: &mut String) -> Written {
+    match world.queue(key) {
+        Ok(threads) => write_names(case, &threads, out),
+        Err(_) => Err(AllocError),
+    }
 }
 
 fn status_of(world: &World, thread: usize) -> &'static str {
@@ -153,13 +149,6 @@ fn status_of(world: &World, thread: usize) -> &'static str {
         Status::Running => "running",
         Status::Asleep => "asleep",
         Status::Finished => "finished",
-    }
-}
-
-fn write_started(world: &World, thread: usize, out: &mut String) -> Written {
-    match world.started(thread) {
-        Some(step) => write!(out, "{step}"),
-        None => out.push_str("no"),
     }
 }
 
@@ -173,22 +162,25 @@ pub(crate) fn write_seen(
     let world = &traced.world;
     match view {
         View::World => out.push_str("made"),
-        View::Reply(thread, call) => write_reply(world, thread, call, out),
-        View::Replies => write!(out, "{}", world.replies().len()),
-        View::Blocks(thread, call) => write!(out, "{}", blocks_of(world, thread, call)),
-        View::Block(thread, call, visit) => write_block(world, (thread, call, visit), out),
-        View::Items(thread, call) => write_items(world, thread, call, out),
-        View::Having(value) => write!(out, "{}", having(world, value)),
+        View::Reply(thread, call) => write_reply(world.replies(), thread, call, out),
+        View::Replies => write_it(&world.replies().len(), out),
+        View::Blocks(thread, call) => write_it(&blocks_of(world.blocks(), thread, call), out),
+        View::Block(thread, call, visit) => write_block(world.blocks(), (thread, call, visit), out),
+        View::Items(thread, call) => write_items(world.replies(), thread, call, out),
+        View::Having(value) => write_it(&having(traced, value)?, out),
         View::Pair(key) => write_pair(world, key, out),
         View::Pairs => write_pairs(traced, out),
-        View::Shard(key) => write!(out, "{}", world.shard_of(&key)),
-        View::Word(shard) => write!(out, "{}", world.word(shard)),
+        View::Shard(key) => write_it(&world.shard_of(&key), out),
+        View::Word(shard) => write_it(&world.word(shard), out),
         View::Words(shard) => write_words(traced, shard, out),
         View::Queue(key) => write_queue(world, case, key, out),
         View::Status(thread) => out.push_str(status_of(world, thread)),
-        View::Moves(thread) => out.push_str(yes_or_no(world.can_move(thread))),
-        View::Started(thread) => write_started(world, thread, out),
-        View::Steps => write!(out, "{}", world.steps()),
-        View::Bound => write!(out, "{}", world.bound()),
+        View::Moves(thread) => out.push_str(if world.can_move(thread) { "yes" } else { "no" }),
+        View::Started(thread) => match world.started(thread) {
+            Some(step) => write_it(&step, out),
+            None => out.push_str("no"),
+        },
+        View::Steps => write_it(&world.steps(), out),
+        View::Bound => write_it(&world.bound(), out),
     }
 }

@@ -1,5 +1,6 @@
 //! What states of a world are told apart by: all that the further steps depend on, and what is answered.
 
+use crate::outcome::Written;
 use crate::reading::write_answer;
 use crate::standing::{Stand, kind_of};
 use crate::worlds::World;
@@ -9,9 +10,6 @@ use parking_lot_machine::{Core, Hold, LateRwPhase, RwSleeper};
 use parking_lot_protocol_rw::UpgradePhase;
 use std::alloc::{AllocError, Global};
 use std::fmt;
-
-/// What is written.
-type Written = Result<(), AllocError>;
 
 /// A number for the kind of a guard.
 fn guard_kind(stand: &Stand) -> u8 {
@@ -98,20 +96,31 @@ fn write_yielding(phase: UpgradePhase, out: &mut String) -> Written {
     }
 }
 
-/// Where a thread's call at a lock stands, and how it holds the locks.
-fn write_call(world: &World, thread: usize, out: &mut String) -> Written {
-    let machine = world.locks().machine();
-    if let Some(call) = machine.call(thread) {
-        write!(out, "; {} {} {:?}", call.lock, call.others, call.spot)?;
-        match call.core {
-            Core::Rw(core) => write!(out, " {:?}", core.phase())?,
-            Core::LateRw(late) => write_late(late, out)?,
-            Core::Upgrade(core) => write_yielding(core.phase(), out)?,
-            Core::Mutex(_) | Core::Late(_) => {}
-        }
+/// How far a thread's call at a lock is.
+fn write_core(core: Core, out: &mut String) -> Written {
+    match core {
+        Core::Rw(core) => write!(out, " {:?}", core.phase()),
+        Core::LateRw(late) => write_late(late, out),
+        Core::Upgrade(core) => write_yielding(core.phase(), out),
+        Core::Mutex(_) | Core::Late(_) => Ok(()),
     }
+}
+
+/// Where a thread's call at a lock stands.
+fn write_call(world: &World, thread: usize, out: &mut String) -> Written {
+    match world.locks().machine().call(thread) {
+        Some(call) => {
+            write!(out, "; {} {} {:?}", call.lock, call.others, call.spot)?;
+            write_core(call.core, out)
+        }
+        None => Ok(()),
+    }
+}
+
+/// How a thread holds the locks.
+fn write_holds(world: &World, thread: usize, out: &mut String) -> Written {
     for shard in 0..world.shards() {
-        match machine.hold(thread, shard) {
+        match world.locks().machine().hold(thread, shard) {
             Hold::Shares(0) => {}
             hold => write!(out, " {shard}{hold:?}")?,
         }
@@ -133,11 +142,11 @@ fn write_sleep(world: &World, thread: usize, out: &mut String) -> Written {
 
 /// What tells the thread's sleep from others.
 fn mark_of(world: &World, thread: usize) -> Option<u64> {
-    match world.locks().machine().lot().place(thread) {
-        Some(Place::Waiting(_, sleep)) => Some(sleep.mark),
-        Some(Place::Held(_, sleep)) => Some(sleep.mark),
-        Some(Place::Taken(_, _, sleep, _)) => Some(sleep.mark),
-        Some(Place::Running) | None => None,
+    match world.locks().machine().lot().place(thread)? {
+        Place::Waiting(_, sleep) | Place::Held(_, sleep) | Place::Taken(_, _, sleep, _) => {
+            Some(sleep.mark)
+        }
+        Place::Running => None,
     }
 }
 
@@ -151,7 +160,7 @@ fn write_wakes(world: &World, out: &mut String) -> Written {
 }
 
 /// The words and queues of the locks.
-fn write_locks(world: &World, out: &mut String) -> Result<(), AllocError> {
+fn write_locks(world: &World, out: &mut String) -> Written {
     for shard in 0..world.shards() {
         write!(out, "\n{}:", world.word(shard))?;
         let key = shard.saturating_mul(2);
@@ -161,14 +170,16 @@ fn write_locks(world: &World, out: &mut String) -> Result<(), AllocError> {
     Ok(())
 }
 
-fn write_queue(world: &World, key: usize, out: &mut String) -> Result<(), AllocError> {
-    let Ok(threads) = world.queue(key) else {
-        return Err(AllocError);
-    };
-    for thread in &threads {
-        write!(out, " {thread}")?;
+fn write_queue(world: &World, key: usize, out: &mut String) -> Written {
+    match world.queue(key) {
+        Ok(threads) => {
+            for thread in &threads {
+                write!(out, " {thread}")?;
+            }
+            out.push_str(".")
+        }
+        Err(_) => Err(AllocError),
     }
-    out.push_str(".")
 }
 
 /// The pairs of the shards by their slots, and for how many there is room.
@@ -202,6 +213,7 @@ fn write_state(alloc: Global, world: &World, out: &mut String) -> Written {
             write_stand(alloc, stand, out)?;
         }
         write_call(world, thread, out)?;
+        write_holds(world, thread, out)?;
         write_sleep(world, thread, out)?;
         write_answers(alloc, world, thread, out)?;
     }

@@ -1,16 +1,78 @@
 //! Steps in words.
 
+use crate::outcome::Written;
 use crate::standing::{act_of, kind_of};
 use crate::worlds::World;
 use lock_api_desk::Mode;
 use mapworld::Step;
 use mapworld_calls::Ask;
-use mapworld_text::{Asked, Case};
+use mapworld_text::{Asked, Case, Shown};
 use parking_lot_machine::{Act, SectionAct};
-use std::alloc::AllocError;
 
-/// What is written.
-type Written = Result<(), AllocError>;
+/// How a step is told.
+#[derive(Clone, Copy)]
+enum Words {
+    /// By these words.
+    Plain(&'static str),
+    /// By words around the number of its shard.
+    Shard(&'static str, &'static str),
+    /// As a look at the word of its shard, by words behind the shard's number.
+    Look(&'static str),
+    /// As a change of the word of its shard, by its verb.
+    Change(&'static str),
+    /// By words around the text of its call.
+    Call(&'static str, &'static str),
+}
+
+/// How a step in the section of a lock's queues is told.
+fn words_of_section(act: SectionAct) -> Words {
+    match act {
+        SectionAct::Check => Words::Look(" once more"),
+        SectionAct::TakeFirst | SectionAct::TakeNext(_) => {
+            Words::Shard("looks for a thread in the queue of", " to wake")
+        }
+        SectionAct::Append(_) => Words::Shard("joins the queue of", ""),
+        SectionAct::Store { .. } => Words::Change("stores"),
+        SectionAct::Leave => Words::Shard("leaves the section of", "'s queues"),
+        SectionAct::Wake => Words::Plain("wakes a thread"),
+    }
+}
+
+/// How a step at a lock is told, where that takes no more than the word of the lock.
+fn words_of_act(act: Act) -> Words {
+    match act {
+        Act::Load => Words::Look(""),
+        Act::Add(_) | Act::FetchAnd(_) => Words::Change("changes"),
+        Act::Spin => Words::Plain("spins"),
+        Act::Enter(_) => Words::Shard("enters the section of", "'s queues"),
+        Act::Section(act) => words_of_section(act),
+        Act::Sleep => Words::Shard(
+            "is past its deadline, and goes on to leave the queues of",
+            "",
+        ),
+        Act::Exchange(..) | Act::Done(_) => Words::Plain(""),
+    }
+}
+
+/// How a step of a call's own work of that kind is told.
+fn words_of_work(kind: u8) -> Words {
+    match kind {
+        0 => Words::Call("starts", ""),
+        1 | 14 => Words::Shard("looks into", ""),
+        3 => Words::Shard("makes room in", ""),
+        4 => Words::Plain("adds the pair"),
+        5 | 8 => Words::Call("does", " with the pair"),
+        6 | 7 => Words::Plain("reads the pair"),
+        9 => Words::Plain("adds the pair at its entry"),
+        10 => Words::Plain("turns its guard into a shared one"),
+        12 => Words::Shard("looks into", ", which it has"),
+        15 => Words::Plain("finds the next pair"),
+        16 => Words::Plain("does with a pair what the walk does"),
+        17 | 19 => Words::Shard("is to give", " up"),
+        18 => Words::Plain("asks for the next shard"),
+        _ => Words::Call("ends", ""),
+    }
+}
 
 /// What is known of a thread before its step.
 #[derive(Clone, Copy)]
@@ -29,6 +91,13 @@ pub(crate) struct Before {
     replies: usize,
     /// Whether the key of its call is present, where it has one.
     present: Option<bool>,
+}
+
+/// What is known of the thread's shard behind the step.
+#[derive(Clone, Copy)]
+struct Now {
+    word: u64,
+    hold: Option<Mode>,
 }
 
 /// A thread's call.
@@ -69,176 +138,129 @@ impl Before {
         }
     }
 
-    /// Writes what the step was, which has led to this world.
-    pub(crate) fn write(&self, world: &World, case: &Case<'_>, out: &mut String) -> Written {
-        out.push_str(case.name_of(self.thread))?;
-        out.push_str(" ")?;
-        if self.deadline {
-            let shard = self.shard;
-            return write!(
-                out,
-                "has waited long enough for shard {shard}: its deadline has come"
-            );
-        }
-        match self.act {
-            None if self.gives_up(world) => self.write_given_up(world, out)?,
-            Some(Act::Done(_)) | None => self.write_work(case, out)?,
-            Some(act) => {
-                self.write_act(act, world, out)?;
-                self.write_hold(world, out)?;
+    /// Writes a step as it is told; the word of its shard is now that.
+    fn write_words(&self, words: Words, case: &Case<'_>, word: u64, out: &mut String) -> Written {
+        let (shard, from) = (self.shard, self.word);
+        match words {
+            Words::Plain(words) => out.push_str(words),
+            Words::Shard(before, after) => write!(out, "{before} shard {shard}{after}"),
+            Words::Look(after) => write!(out, "looks at the word of shard {shard}{after}: {word}"),
+            Words::Change(verb) => {
+                write!(
+                    out,
+                    "{verb} the word of shard {shard}: {from} becomes {word}"
+                )
+            }
+            Words::Call(before, after) => {
+                let call = case.call_of(self.thread, self.call);
+                write!(out, "{before} `{call}`{after}")
             }
         }
-        self.write_decided(world, case, out)
+    }
+
+    /// Writes what the step was, which has led to this world.
+    pub(crate) fn write(&self, world: &World, case: &Case<'_>, out: &mut String) -> Written {
+        let now = Now {
+            word: world.word(self.shard),
+            hold: world.hold(self.thread, self.shard),
+        };
+        out.push_str(case.name_of(self.thread))?;
+        out.push_str(" ")?;
+        self.write_step(now, case, out)?;
+        if let Some(block) = world.blocks().get(self.blocks) {
+            self.write_counted((block.thread, block.call), case, out)?;
+        }
+        match world.replies().get(self.replies) {
+            Some(reply) => write!(out, ": {}", Shown(&reply.answer)),
+            None => Ok(()),
+        }
+    }
+
+    /// Writes what was done at the shard or by the call itself.
+    fn write_step(&self, now: Now, case: &Case<'_>, out: &mut String) -> Written {
+        if self.deadline {
+            let words = Words::Shard("has waited long enough for", ": its deadline has come");
+            return self.write_words(words, case, now.word, out);
+        }
+        match self.act {
+            None if self.gives_up(now) => self.write_given_up(now, out),
+            Some(Act::Done(_)) | None => self.write_work(now, case, out),
+            Some(act) => self.write_act(act, now, case, out),
+        }
     }
 
     /// Whether the shard was given up by the step.
-    fn gives_up(&self, world: &World) -> bool {
-        self.hold.is_some() && world.hold(self.thread, self.shard).is_none()
+    fn gives_up(&self, now: Now) -> bool {
+        self.hold.is_some() && now.hold.is_none()
     }
 
     /// A step that gives the shard up at once.
-    fn write_given_up(&self, world: &World, out: &mut String) -> Written {
-        let shard = self.shard;
-        let before = self.word;
-        let word = world.word(shard);
+    fn write_given_up(&self, now: Now, out: &mut String) -> Written {
+        let (shard, before, word) = (self.shard, self.word, now.word);
         write!(
             out,
             "gives shard {shard} up: its word {before} becomes {word}"
         )
     }
 
-    /// An exchange of a lock's word, which is now that.
-    fn write_exchange(&self, from: u64, to: u64, word: u64, out: &mut String) -> Written {
-        let shard = self.shard;
-        if self.word == from {
-            write!(
-                out,
-                "exchanges the word of shard {shard}: {from} becomes {to}"
-            )
-        } else {
-            write!(
-                out,
-                "fails to exchange the word of shard {shard}: it is {word}, not {from}"
-            )
-        }
+    /// An exchange of a lock's word that fails, as it is now another.
+    fn write_failed(&self, from: u64, now: Now, out: &mut String) -> Written {
+        let (shard, word) = (self.shard, now.word);
+        write!(
+            out,
+            "fails to exchange the word of shard {shard}: it is {word}, not {from}"
+        )
     }
 
-    /// A step at a lock.
-    fn write_act(&self, act: Act, world: &World, out: &mut String) -> Written {
-        let shard = self.shard;
-        let before = self.word;
-        let word = world.word(shard);
+    /// A step at a lock, and whether the shard was had or given up by it.
+    fn write_act(&self, act: Act, now: Now, case: &Case<'_>, out: &mut String) -> Written {
         match act {
-            Act::Load => write!(out, "looks at the word of shard {shard}: {word}"),
-            Act::Exchange(from, to) => self.write_exchange(from, to, word, out),
-            Act::Add(_) | Act::FetchAnd(_) => {
-                write!(
-                    out,
-                    "changes the word of shard {shard}: {before} becomes {word}"
-                )
-            }
-            Act::Spin => out.push_str("spins"),
-            Act::Enter(_) => write!(out, "enters the section of shard {shard}'s queues"),
-            Act::Section(act) => self.write_section(act, word, out),
-            Act::Sleep => {
-                write!(
-                    out,
-                    "is past its deadline, and goes on to leave the queues of shard {shard}"
-                )
-            }
-            Act::Done(_) => Ok(()),
+            Act::Exchange(from, _) if self.word != from => self.write_failed(from, now, out)?,
+            Act::Exchange(_, to) => self.write_words(Words::Change("exchanges"), case, to, out)?,
+            _ => self.write_words(words_of_act(act), case, now.word, out)?,
         }
-    }
-
-    /// A step in the section of a lock's queues.
-    fn write_section(&self, act: SectionAct, word: u64, out: &mut String) -> Written {
-        let shard = self.shard;
-        let before = self.word;
-        match act {
-            SectionAct::Check => {
-                write!(out, "looks at the word of shard {shard} once more: {word}")
-            }
-            SectionAct::TakeFirst | SectionAct::TakeNext(_) => {
-                write!(
-                    out,
-                    "looks for a thread in the queue of shard {shard} to wake"
-                )
-            }
-            SectionAct::Append(_) => write!(out, "joins the queue of shard {shard}"),
-            SectionAct::Store { .. } => {
-                write!(
-                    out,
-                    "stores the word of shard {shard}: {before} becomes {word}"
-                )
-            }
-            SectionAct::Leave => write!(out, "leaves the section of shard {shard}'s queues"),
-            SectionAct::Wake => out.push_str("wakes a thread"),
-        }
+        self.write_words(self.words_of_hold(now), case, now.word, out)
     }
 
     /// A step of the call's own work.
-    fn write_work(&self, case: &Case<'_>, out: &mut String) -> Written {
-        let shard = self.shard;
-        let call = case.call_of(self.thread, self.call);
-        match self.kind {
-            0 => write!(out, "starts `{call}`"),
-            1 => self.write_look(case, out),
-            3 => write!(out, "makes room in shard {shard}"),
-            4 => out.push_str("adds the pair"),
-            5 | 8 => write!(out, "does `{call}` with the pair"),
-            6 | 7 => out.push_str("reads the pair"),
-            9 => out.push_str("adds the pair at its entry"),
-            10 => out.push_str("turns its guard into a shared one"),
-            12 => write!(out, "looks into shard {shard}, which it has"),
-            14 => write!(out, "looks into shard {shard}"),
-            15 => out.push_str("finds the next pair"),
-            16 => out.push_str("does with a pair what the walk does"),
-            17 | 19 => write!(out, "is to give shard {shard} up"),
-            18 => out.push_str("asks for the next shard"),
-            _ => write!(out, "ends `{call}`"),
+    fn write_work(&self, now: Now, case: &Case<'_>, out: &mut String) -> Written {
+        match key_at(case, self.thread, self.call) {
+            Some(key) if self.kind == 1 => self.write_look(key, out),
+            _ => self.write_words(words_of_work(self.kind), case, now.word, out),
         }
     }
 
     /// The look for the call's key.
-    fn write_look(&self, case: &Case<'_>, out: &mut String) -> Written {
+    fn write_look(&self, key: u64, out: &mut String) -> Written {
         let shard = self.shard;
-        match (key_at(case, self.thread, self.call), self.present) {
-            (Some(key), Some(true)) => {
-                write!(out, "looks for key {key} in shard {shard}: present")
-            }
-            (Some(key), _) => write!(out, "looks for key {key} in shard {shard}: absent"),
-            (None, _) => write!(out, "looks into shard {shard}"),
+        let found = match self.present {
+            Some(true) => "present",
+            _ => "absent",
+        };
+        write!(out, "looks for key {key} in shard {shard}: {found}")
+    }
+
+    /// How it is told that the shard was had or given up by the step.
+    fn words_of_hold(&self, now: Now) -> Words {
+        match (self.hold, now.hold) {
+            (None, Some(Mode::Exclusive)) => Words::Shard(", and has", " alone"),
+            (None, Some(_)) => Words::Shard(", and shares", ""),
+            (Some(_), None) => Words::Shard(", and gives", " up"),
+            _ => Words::Plain(""),
         }
     }
 
-    /// Whether the shard was had or given up by the step.
-    fn write_hold(&self, world: &World, out: &mut String) -> Written {
+    /// Which call counts as done from the step on.
+    fn write_counted(&self, of: (usize, usize), case: &Case<'_>, out: &mut String) -> Written {
         let shard = self.shard;
-        match (self.hold, world.hold(self.thread, shard)) {
-            (None, Some(Mode::Exclusive)) => write!(out, ", and has shard {shard} alone"),
-            (None, Some(_)) => write!(out, ", and shares shard {shard}"),
-            (Some(_), None) => write!(out, ", and gives shard {shard} up"),
-            _ => Ok(()),
-        }
-    }
-
-    /// Whether the call was decided or answered by the step.
-    fn write_decided(&self, world: &World, case: &Case<'_>, out: &mut String) -> Written {
-        if let Some(block) = world.blocks().get(self.blocks) {
-            let call = case.call_of(block.thread, block.call);
-            if matches!(asked_at(case, block.thread, block.call), Some(Ask::Walk(_))) {
-                let shard = self.shard;
-                write!(
-                    out,
-                    ". From here on `{call}` counts as done in shard {shard}"
-                )?;
-            } else {
-                write!(out, ". From here on its `{call}` counts as done")?;
-            }
-        }
-        match world.replies().get(self.replies) {
-            Some(reply) => write!(out, ": {}", mapworld_text::Shown(&reply.answer)),
-            None => Ok(()),
+        let text = case.call_of(of.0, of.1);
+        if matches!(asked_at(case, of.0, of.1), Some(Ask::Walk(_))) {
+            write!(
+                out,
+                ". From here on `{text}` counts as done in shard {shard}"
+            )
+        } else {
+            write!(out, ". From here on its `{text}` counts as done")
         }
     }
 }

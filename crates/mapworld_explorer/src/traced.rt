@@ -1,6 +1,7 @@
 //! A world that is stepped, and the words that its shards have had.
 
-use crate::worlds::World;
+use crate::search::step_by;
+use crate::worlds::{World, go};
 use mapworld::{RunFault, Step};
 use std::alloc::{AllocError, Global};
 
@@ -33,8 +34,7 @@ impl Traced {
 
     /// The word that a shard had last.
     fn last_word(&self, shard: usize) -> u64 {
-        let last = self.words.iter().rev().find(|noted| noted.0 == shard);
-        match last {
+        match self.words.iter().rev().find(|noted| noted.0 == shard) {
             Some(noted) => noted.1,
             None => 0,
         }
@@ -65,16 +65,12 @@ impl Traced {
         fair: bool,
     ) -> Result<Option<RunFault>, AllocError> {
         let fair = fair || self.is_fair(thread);
-        self.make(Step {
-            thread,
-            fair,
-            deadline: false,
-        })
+        self.make(step_by(thread, fair, false))
     }
 
     /// Makes a step, and answers why it isn't done, if it isn't.
     fn make(&mut self, step: Step) -> Result<Option<RunFault>, AllocError> {
-        let fault = self.world.run(&[step]).err();
+        let fault = go(&mut self.world, &[step]).err();
         if fault.is_none() {
             self.made.push(step)?;
         }
@@ -84,11 +80,7 @@ impl Traced {
 
     /// A thread's deadline comes; says whether it could.
     pub(crate) fn deadline(&mut self, thread: usize) -> Result<bool, AllocError> {
-        let fault = self.make(Step {
-            thread,
-            fair: false,
-            deadline: true,
-        })?;
+        let fault = self.make(step_by(thread, false, true))?;
         Ok(fault.is_none())
     }
 

@@ -14,11 +14,6 @@ pub(crate) struct Waits {
     ways: Vec<(usize, usize)>,
 }
 
-/// The greater one of two numbers.
-fn greater(one: usize, other: usize) -> usize {
-    if one < other { other } else { one }
-}
-
 impl Waits {
     /// Of so many threads, before the first state.
     pub(crate) fn new(alloc: Global, threads: usize) -> Waits {
@@ -89,7 +84,7 @@ impl Waits {
             let place = self.place(state, thread);
             if self.is_asleep(place) {
                 let more = waited.get(place).copied().unwrap_or(0).saturating_add(1);
-                longest = greater(longest, more);
+                longest = longest.max(more);
             }
         }
         longest

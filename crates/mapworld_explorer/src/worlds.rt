@@ -176,3 +176,8 @@ pub fn calls_of(case: &Case<'_>) -> usize
 {
     calls_in(&case.programs)
 }
+
+/// Makes steps in a world; they are as `run` promises.
+pub(crate) fn go(world: &mut World, steps: &[Step]) -> Result<(), RunFault> {
+    world.run(steps)
+}

@@ -1,11 +1,13 @@
 //! Every schedule of two programs, by the states to which they lead; each of them is drained.
 
 use crate::rules::{broken_by_threads, refuses};
-use crate::worlds::{World, broken, shown_now, world_of};
+use crate::worlds::{World, broken, drain, run, shown_now, world_of};
 use mapworld::Step;
 use mapworld_explorer::{Ahead, ahead_of, may_be_fair};
+use mapworld_oracle::judge::Halfway;
 use mapworld_oracle::replay::Made;
 use mapworld_text::Asked;
+use std::alloc::{AllocError, Global};
 use std::collections::HashSet;
 use std::process::Abort;
 use std::test::Fail;
@@ -85,15 +87,15 @@ impl<'r, 'p, R: AllocGlobal + Abort> Explorer<'r, 'p, R> {
     fn first(&mut self) -> Result<Vec<Vec<Step>>, Fail> {
         let mut schedules = Vec::new(self.rt.alloc());
         let schedule = Vec::new(self.rt.alloc());
-        let world = self.world_behind(&schedule)?;
-        self.look_at(world, schedule, &mut schedules)?;
+        let mut world = self.world_behind(&schedule)?;
+        self.look_at(&mut world, schedule, &mut schedules)?;
         Ok(schedules)
     }
 
     /// A world behind a schedule.
     fn world_behind(&self, schedule: &[Step]) -> Result<World, Fail> {
         let mut world = world_of(self.rt.alloc(), self.two.pairs, self.two.programs)?;
-        world.run(schedule)?;
+        run(&mut world, schedule)?;
         Ok(world)
     }
 
@@ -108,26 +110,38 @@ impl<'r, 'p, R: AllocGlobal + Abort> Explorer<'r, 'p, R> {
         Ok(longer)
     }
 
-    /// Looks at a world behind a schedule, which is kept if the state is new; and drains it.
-    fn look_at(
-        &mut self,
-        world: World,
-        schedule: Vec<Step>,
-        longer: &mut Vec<Vec<Step>>,
-    ) -> Result<(), Fail> {
-        let ahead = ahead_of(self.rt.alloc(), &world)?;
+    /// Notes what is ahead of a state, and tells whether that is new.
+    fn is_new(&mut self, ahead: &Ahead) -> Result<bool, Fail> {
         if self.known.contains(ahead.as_str()) {
-            return Ok(());
+            return Ok(false);
         }
         let text = String::from_str(self.rt.alloc(), ahead.as_str())?;
         let _ = self.known.insert(text)?;
+        Ok(true)
+    }
+
+    /// Counts a new state.
+    fn count(&mut self, world: &World) {
         self.found.states = self.found.states.saturating_add(1);
         if world.replies().len() == self.calls() {
             self.found.ends = self.found.ends.saturating_add(1);
         }
-        self.must_hold(broken_by_threads(&world), &schedule);
-        self.drain(world, &ahead, &schedule)?;
-        longer.push(schedule)?;
+    }
+
+    /// Looks at a world behind a schedule, which is kept if the state is new; and drains it.
+    fn look_at(
+        &mut self,
+        world: &mut World,
+        schedule: Vec<Step>,
+        longer: &mut Vec<Vec<Step>>,
+    ) -> Result<(), Fail> {
+        let ahead = ahead_of(self.rt.alloc(), world)?;
+        if self.is_new(&ahead)? {
+            self.count(world);
+            self.must_hold(broken_by_threads(world), &schedule);
+            self.drain(world, &ahead, &schedule)?;
+            longer.push(schedule)?;
+        }
         Ok(())
     }
 
@@ -136,41 +150,37 @@ impl<'r, 'p, R: AllocGlobal + Abort> Explorer<'r, 'p, R> {
         lengths.fold(0_usize, |sum, length| sum.saturating_add(length))
     }
 
-    /// Drains a world behind a schedule, and looks at what it showed before and shows then.
-    fn drain(&mut self, world: World, ahead: &Ahead, schedule: &[Step]) -> Result<(), Fail> {
-        let mut world = world;
-        if !refuses(self.rt.alloc(), &mut world, ahead)? {
-            self.must_hold(
-                Some("a step that can't be made is refused, and changes nothing"),
-                schedule,
-            );
-        }
-        let mut threads = Vec::new(self.rt.alloc());
-        let mut deadlines = Vec::new(self.rt.alloc());
-        for (i, step) in schedule.iter().enumerate() {
-            threads.push(step.thread)?;
-            if step.deadline {
-                deadlines.push((step.thread, (i as u64).saturating_add(1)))?;
-            }
-        }
-        let (halfway, is_shown) = shown_now(self.rt.alloc(), &world, threads, deadlines)?;
+    /// Drains a world, and tells whether that was within its bound and left nothing to do.
+    fn is_drained(&mut self, world: &mut World) -> bool {
         let bound = world.bound();
-        let steps = world.drain();
+        let steps = drain(world);
         let share = steps.saturating_mul(1000).checked_div(bound).unwrap_or(0);
         self.found.share = self.found.share.max(share);
-        if !is_shown || steps > bound || world.drain() != 0 {
-            self.must_hold(
-                Some("a drain is within its bound, and leaves nothing to do"),
-                schedule,
-            );
-        }
+        steps <= bound && drain(world) == 0
+    }
+
+    /// Drains a world behind a schedule, and looks at what it showed before and shows then.
+    fn drain(&mut self, world: &mut World, ahead: &Ahead, schedule: &[Step]) -> Result<(), Fail> {
+        let is_kept = refuses(self.rt.alloc(), world, ahead)?;
+        self.must(
+            is_kept,
+            "a step that can't be made is refused, and changes nothing",
+            schedule,
+        );
+        let (halfway, is_shown) = shown_behind(self.rt.alloc(), world, schedule)?;
+        let is_drained = self.is_drained(world);
+        self.must(
+            is_shown && is_drained,
+            "a drain is within its bound, and leaves nothing to do",
+            schedule,
+        );
         let made = Made {
             alloc: self.rt.alloc(),
             shards: 2,
             pairs: self.two.pairs,
             programs: self.two.programs,
         };
-        self.must_hold(broken(made, &world, KEYS, &halfway)?, schedule);
+        self.must_hold(broken(made, world, KEYS, &halfway)?, schedule);
         Ok(())
     }
 
@@ -182,50 +192,52 @@ impl<'r, 'p, R: AllocGlobal + Abort> Explorer<'r, 'p, R> {
         thread: usize,
         longer: &mut Vec<Vec<Step>>,
     ) -> Result<(), Fail> {
-        let world = self.world_behind(schedule)?;
-        if world.locks().may_expire(thread) {
-            let late = Step {
-                thread,
-                fair: false,
-                deadline: true,
-            };
-            return self.make(world, schedule, late, longer);
-        }
-        if !world.can_move(thread) {
+        let mut world = self.world_behind(schedule)?;
+        let deadline = world.locks().may_expire(thread);
+        if !deadline && !world.can_move(thread) {
             return Ok(());
         }
-        let stores = may_be_fair(&world, thread);
-        let plain = Step {
-            thread,
-            fair: false,
-            deadline: false,
-        };
-        self.make(world, schedule, plain, longer)?;
+        let stores = !deadline && may_be_fair(&world, thread);
+        self.make(
+            &mut world,
+            schedule,
+            step_of(thread, false, deadline),
+            longer,
+        )?;
         if stores {
-            let world = self.world_behind(schedule)?;
-            let fair = Step {
-                fair: true,
-                thread,
-                deadline: false,
-            };
-            self.make(world, schedule, fair, longer)?;
+            self.make_fair(schedule, thread, longer)?;
         }
         Ok(())
+    }
+
+    /// Makes the thread's fair step behind a schedule.
+    fn make_fair(
+        &mut self,
+        schedule: &[Step],
+        thread: usize,
+        longer: &mut Vec<Vec<Step>>,
+    ) -> Result<(), Fail> {
+        let mut world = self.world_behind(schedule)?;
+        self.make(&mut world, schedule, step_of(thread, true, false), longer)
     }
 
     /// Makes a step behind a schedule.
     fn make(
         &mut self,
-        world: World,
+        world: &mut World,
         schedule: &[Step],
         step: Step,
         longer: &mut Vec<Vec<Step>>,
     ) -> Result<(), Fail> {
-        let mut world = world;
-        world.run(&[step])?;
+        run(world, &[step])?;
         let mut whole = Vec::from_slice(self.rt.alloc(), schedule)?;
         whole.push(step)?;
         self.look_at(world, whole, longer)
+    }
+
+    /// Ends the test where that isn't so behind a schedule.
+    fn must(&self, so: bool, rule: &'static str, schedule: &[Step]) {
+        self.must_hold(if so { None } else { Some(rule) }, schedule);
     }
 
     /// Ends the test where a rule is broken behind a schedule.
@@ -235,4 +247,30 @@ impl<'r, 'p, R: AllocGlobal + Abort> Explorer<'r, 'p, R> {
             panic!(self.rt; "{rule}: {programs:?} by {schedule:?}")
         }
     }
+}
+
+/// A step of that thread, or its deadline.
+fn step_of(thread: usize, fair: bool, deadline: bool) -> Step {
+    Step {
+        thread,
+        fair,
+        deadline,
+    }
+}
+
+/// What a world shows behind these steps, and whether each block shows the end of its call.
+fn shown_behind(
+    alloc: Global,
+    world: &World,
+    schedule: &[Step],
+) -> Result<(Halfway, bool), AllocError> {
+    let mut threads = Vec::new(alloc);
+    let mut deadlines = Vec::new(alloc);
+    for (i, step) in schedule.iter().enumerate() {
+        threads.push(step.thread)?;
+        if step.deadline {
+            deadlines.push((step.thread, (i as u64).saturating_add(1)))?;
+        }
+    }
+    shown_now(alloc, world, threads, deadlines)
 }

@@ -1,6 +1,6 @@
 //! What must be seen of a world in each of its states.
 
-use crate::worlds::World;
+use crate::worlds::{World, run};
 use mapworld::{RunFault, Status, Step};
 use mapworld_explorer::{Ahead, ahead_of};
 use parking_lot_core_model::{Place, ThreadStatus};
@@ -93,29 +93,39 @@ pub fn broken_by_threads(world: &World) -> Option<&'static str> {
     }
 }
 
+/// Whether a step that can't be made is refused, and changes nothing.
+fn is_refused(alloc: Global, world: &mut World, ahead: &Ahead, step: Step) -> Result<bool, Fail> {
+    let is_refused = run(world, &[step]) == Err(RunFault::CannotMove(0));
+    Ok(is_refused && ahead_of(alloc, world)? == *ahead)
+}
+
+/// Whether a thread's step is refused where it can't move, and its deadline where that can't come; and they change
+/// nothing.
+fn refuses_of(
+    alloc: Global,
+    world: &mut World,
+    ahead: &Ahead,
+    thread: usize,
+) -> Result<bool, Fail> {
+    let step = Step {
+        thread,
+        fair: false,
+        deadline: false,
+    };
+    let late = Step {
+        deadline: true,
+        ..step
+    };
+    let stays = world.can_move(thread) || is_refused(alloc, world, ahead, step)?;
+    Ok(stays && (world.locks().may_expire(thread) || is_refused(alloc, world, ahead, late)?))
+}
+
 /// Whether a step of each thread that can't move is refused, and so is each deadline that can't come; and they change
 /// nothing.
 pub fn refuses(alloc: Global, world: &mut World, ahead: &Ahead) -> Result<bool, Fail> {
     let mut is_kept = true;
     for thread in 0..world.threads() {
-        if !world.can_move(thread) {
-            let step = Step {
-                thread,
-                fair: false,
-                deadline: false,
-            };
-            is_kept &= world.run(&[step]) == Err(RunFault::CannotMove(0));
-            is_kept &= ahead_of(alloc, world)? == *ahead;
-        }
-        if !world.locks().may_expire(thread) {
-            let late = Step {
-                thread,
-                fair: false,
-                deadline: true,
-            };
-            is_kept &= world.run(&[late]) == Err(RunFault::CannotMove(0));
-            is_kept &= ahead_of(alloc, world)? == *ahead;
-        }
+        is_kept &= refuses_of(alloc, world, ahead, thread)?;
     }
     Ok(is_kept)
 }

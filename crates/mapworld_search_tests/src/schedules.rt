@@ -4,6 +4,7 @@
 
 use crate::explorer::{Explorer, Found, Two};
 use crate::worlds::{copy_of, programs_of, shard_of, world_of};
+use mapworld_text::Asked;
 use std::process::Abort;
 use std::test::Fail;
 
@@ -91,22 +92,13 @@ thread shrinks
 ";
 
 /// A reading call.
-const VIEW: &str = "
-thread a
-  view 1
-";
+const VIEW: &str = "thread a\n  view 1\n";
 
 /// An insertion of an absent key.
-const INSERT: &str = "
-thread a
-  insert 3 7
-";
+const INSERT: &str = "thread a\n  insert 3 7\n";
 
 /// A removal.
-const REMOVE: &str = "
-thread a
-  remove 1
-";
+const REMOVE: &str = "thread a\n  remove 1\n";
 
 /// A session with a shared guard.
 const SHARED: &str = "
@@ -152,34 +144,19 @@ thread a
 ";
 
 /// A walk that reads.
-const READS: &str = "
-thread a
-  iter
-";
+const READS: &str = "thread a\n  iter\n";
 
 /// A walk that reads, and changes each value.
-const READS_AND_ADDS: &str = "
-thread a
-  iter-mut add 1
-";
+const READS_AND_ADDS: &str = "thread a\n  iter-mut add 1\n";
 
 /// A walk that keeps some pairs.
-const KEEPS: &str = "
-thread a
-  retain add 1 keep value < 6
-";
+const KEEPS: &str = "thread a\n  retain add 1 keep value < 6\n";
 
 /// A walk that counts.
-const COUNTS: &str = "
-thread a
-  len
-";
+const COUNTS: &str = "thread a\n  len\n";
 
 /// A walk that changes each value.
-const ADDS: &str = "
-thread a
-  alter-all add 1
-";
+const ADDS: &str = "thread a\n  alter-all add 1\n";
 
 /// Two calls that read.
 const TWO_LOOKS: &str = "
@@ -303,10 +280,7 @@ thread g
 ";
 
 /// A removal on shard 0.
-const REMOVE_2: &str = "
-thread a
-  remove 2
-";
+const REMOVE_2: &str = "thread a\n  remove 2\n";
 
 /// Sessions with guards on shard 0.
 const GUARDS_ON_SHARD_0: &str = "
@@ -355,37 +329,50 @@ fn sum(found: Found, more: Found) -> Found {
     }
 }
 
-/// Makes all schedules of each of the first programs with each of the others, and prints how many states there are.
-/// Were there fewer than that number, different ones might have been taken for one.
-fn explore(
-    rt: &(impl AllocGlobal + Abort + Print),
+/// Makes all schedules of two programs.
+fn explore_two(
+    rt: &(impl AllocGlobal + Abort),
+    pairs: &[(u64, u64)],
+    first: &[Asked],
+    other: &[Asked],
+) -> Result<Found, Fail> {
+    let alloc = rt.alloc();
+    let programs = vec![in alloc; copy_of(alloc, first)?, copy_of(alloc, other)?]?;
+    let two = Two {
+        pairs,
+        programs: &programs,
+    };
+    Explorer::explore(rt, two)
+}
+
+/// Makes all schedules of a program with each of the others.
+fn explore_each(
+    rt: &(impl AllocGlobal + Abort),
+    pairs: &[(u64, u64)],
+    first: &[Asked],
+    others: &[Vec<Asked>],
+) -> Result<Found, Fail> {
+    let mut found = Found::NOTHING;
+    for other in others {
+        found = sum(found, explore_two(rt, pairs, first, other)?);
+    }
+    Ok(found)
+}
+
+/// Makes all schedules of each of the first programs with each of the others.
+fn explore_all(
+    rt: &(impl AllocGlobal + Abort),
     pairs: &[(u64, u64)],
     firsts: &str,
     others: &str,
-    least: u64,
-) -> Result<(), Fail> {
-    let alloc = rt.alloc();
-    let firsts = programs_of(alloc, firsts)?;
-    let others = programs_of(alloc, others)?;
+) -> Result<Found, Fail> {
+    let firsts = programs_of(rt.alloc(), firsts)?;
+    let others = programs_of(rt.alloc(), others)?;
     let mut found = Found::NOTHING;
     for first in &firsts {
-        for other in &others {
-            let programs = vec![in alloc; copy_of(alloc, first)?, copy_of(alloc, other)?]?;
-            let two = Two {
-                pairs,
-                programs: &programs,
-            };
-            found = sum(found, Explorer::explore(rt, two)?);
-        }
+        found = sum(found, explore_each(rt, pairs, first, &others)?);
     }
-    let Found {
-        states,
-        ends,
-        share,
-    } = found;
-    assert!(rt; states >= least && ends > 0, "{states} states, {ends} ends");
-    println!(rt; "{states} states, {ends} ends, at most {share} thousandths of a bound")?;
-    Ok(())
+    Ok(found)
 }
 
 /// The one pair that a world of one shard in use begins with.
@@ -393,6 +380,43 @@ const ONE: &[(u64, u64)] = &[(1, 5)];
 
 /// A pair on each shard.
 const BOTH: &[(u64, u64)] = &[(1, 5), (2, 6)];
+
+/// Programs that are tried: a word for them, the first ones and the others, and how many states there are at least.
+/// Were there fewer, different ones might have been taken for one.
+#[derive(Clone, Copy)]
+struct Row(&'static str, &'static str, &'static str, u64);
+
+/// Makes all schedules of a row, and prints how many states there are.
+fn explore(
+    rt: &(impl AllocGlobal + Abort + Print),
+    pairs: &[(u64, u64)],
+    row: Row,
+) -> Result<(), Fail> {
+    let Row(name, firsts, others, least) = row;
+    let Found {
+        states,
+        ends,
+        share,
+    } = explore_all(rt, pairs, firsts, others)?;
+    assert!(rt;
+        states >= least && ends > 0,
+        "{name}: {states} states, {ends} ends"
+    );
+    println!(rt; "{name}: {states} states, {ends} ends, at most {share} thousandths of a bound")?;
+    Ok(())
+}
+
+/// Makes all schedules of each row, from these pairs.
+fn explore_rows(
+    rt: &(impl AllocGlobal + Abort + Print),
+    pairs: &[(u64, u64)],
+    rows: &[Row],
+) -> Result<(), Fail> {
+    for row in rows {
+        explore(rt, pairs, *row)?;
+    }
+    Ok(())
+}
 
 #[test]
 fn the_tests_know_the_shards(rt: HostRuntime) -> Result<(), Fail> {
@@ -403,160 +427,161 @@ fn the_tests_know_the_shards(rt: HostRuntime) -> Result<(), Fail> {
     Ok(())
 }
 
+/// Programs of two calls on one shard.
+const TWO_CALLS: &[Row] = &[
+    Row("that read", TWO_LOOKS, TWO_OTHERS, 4_200),
+    Row("that change", REPLACES, PUTS_BACK, 3_600),
+];
+
+/// Programs of two calls on two shards.
+const TWO_CALLS_ON_TWO: &[Row] = &[
+    Row("a shard each", INSERT_AND_VIEW, PUTS_BACK_BESIDE, 270),
+    Row("both", FIRST_THEN_SECOND, SECOND_THEN_FIRST, 1_600),
+];
+
 #[test]
 fn programs_of_two_calls(rt: HostRuntime) -> Result<(), Fail> {
-    explore(&rt, ONE, TWO_LOOKS, TWO_OTHERS, 4_200)?;
-    explore(&rt, ONE, REPLACES, PUTS_BACK, 3_600)
+    explore_rows(&rt, ONE, TWO_CALLS)?;
+    explore_rows(&rt, BOTH, TWO_CALLS_ON_TWO)
 }
 
-#[test]
-fn programs_of_two_calls_on_two_shards(rt: HostRuntime) -> Result<(), Fail> {
-    explore(&rt, BOTH, INSERT_AND_VIEW, PUTS_BACK_BESIDE, 270)?;
-    explore(&rt, BOTH, FIRST_THEN_SECOND, SECOND_THEN_FIRST, 1_600)
-}
+/// Calls, guards and tries beside calls on keys and tries.
+const BESIDE_CALLS: &[Row] = &[
+    Row("calls, calls", KEYED, KEYED, 3_700),
+    Row("guards, calls", GUARDED, KEYED, 9_100),
+    Row("tries, calls", TRIES, KEYED, 2_400),
+    Row("tries, tries", TRIES, TRIES, 1_000),
+];
 
 #[test]
-fn calls_on_keys_beside_each_other(rt: HostRuntime) -> Result<(), Fail> {
-    explore(&rt, ONE, KEYED, KEYED, 3_700)
+fn calls_guards_and_tries_beside_calls_on_keys(rt: HostRuntime) -> Result<(), Fail> {
+    explore_rows(&rt, ONE, BESIDE_CALLS)
 }
 
-#[test]
-fn guards_beside_calls_on_keys(rt: HostRuntime) -> Result<(), Fail> {
-    explore(&rt, ONE, GUARDED, KEYED, 9_100)
-}
+/// Guards beside guards.
+const BESIDE_GUARDS: &[Row] = &[
+    Row("shared", SHARED, GUARDED, 2_700),
+    Row("exclusive", EXCLUSIVE, GUARDED, 3_900),
+    Row("that become shared", DOWNGRADED, GUARDED, 5_600),
+];
 
 #[test]
-fn shared_guards_beside_guards(rt: HostRuntime) -> Result<(), Fail> {
-    explore(&rt, ONE, SHARED, GUARDED, 2_700)
+fn guards_beside_guards(rt: HostRuntime) -> Result<(), Fail> {
+    explore_rows(&rt, ONE, BESIDE_GUARDS)
 }
 
-#[test]
-fn exclusive_guards_beside_guards(rt: HostRuntime) -> Result<(), Fail> {
-    explore(&rt, ONE, EXCLUSIVE, GUARDED, 3_900)
-}
+/// Entries and tries beside guards.
+const ENTRIES_AND_TRIES: &[Row] = &[
+    Row("entries", ENTRIES, GUARDED, 8_100),
+    Row("tries", TRIES, GUARDED, 4_800),
+];
 
 #[test]
-fn guards_that_become_shared_beside_guards(rt: HostRuntime) -> Result<(), Fail> {
-    explore(&rt, ONE, DOWNGRADED, GUARDED, 5_600)
+fn entries_and_tries_beside_guards(rt: HostRuntime) -> Result<(), Fail> {
+    explore_rows(&rt, ONE, ENTRIES_AND_TRIES)
 }
 
-#[test]
-fn entries_beside_guards(rt: HostRuntime) -> Result<(), Fail> {
-    explore(&rt, ONE, ENTRIES, GUARDED, 8_100)
-}
+/// Calls with a deadline beside calls without.
+const TIMED_BESIDE_OTHERS: &[Row] = &[
+    Row("calls on keys", TIMED, KEYED, 6_500),
+    Row("tries", TIMED, TRIES, 4_400),
+    Row("a walk", TIMED, READS, 2_200),
+];
 
 #[test]
-fn tries_beside_calls_on_keys_and_tries(rt: HostRuntime) -> Result<(), Fail> {
-    explore(&rt, ONE, TRIES, KEYED, 2_400)?;
-    explore(&rt, ONE, TRIES, TRIES, 1_000)
-}
-
-#[test]
-fn tries_beside_guards(rt: HostRuntime) -> Result<(), Fail> {
-    explore(&rt, ONE, TRIES, GUARDED, 4_800)
+fn calls_with_deadlines_beside_calls_without(rt: HostRuntime) -> Result<(), Fail> {
+    explore_rows(&rt, ONE, TIMED_BESIDE_OTHERS)
 }
 
 #[test]
 fn calls_with_deadlines_beside_each_other(rt: HostRuntime) -> Result<(), Fail> {
-    explore(&rt, ONE, TIMED, TIMED, 11_000)
-}
-
-#[test]
-fn calls_with_deadlines_beside_calls_without(rt: HostRuntime) -> Result<(), Fail> {
-    explore(&rt, ONE, TIMED, KEYED, 6_500)?;
-    explore(&rt, ONE, TIMED, TRIES, 4_400)?;
-    explore(&rt, ONE, TIMED, READS, 2_200)
+    explore(&rt, ONE, Row("timed", TIMED, TIMED, 11_000))
 }
 
 #[test]
 fn calls_with_deadlines_beside_guards(rt: HostRuntime) -> Result<(), Fail> {
-    explore(&rt, ONE, TIMED, GUARDED, 15_800)
+    explore(&rt, ONE, Row("guards", TIMED, GUARDED, 15_800))
 }
 
-#[test]
-fn walks_beside_a_reading_call(rt: HostRuntime) -> Result<(), Fail> {
-    explore(&rt, ONE, VIEW, WALKS, 3_100)
-}
+/// Walks beside calls on keys.
+const WALKS_BESIDE_CALLS: &[Row] = &[
+    Row("a reading call", VIEW, WALKS, 3_100),
+    Row("an insertion", INSERT, WALKS, 4_700),
+    Row("a removal", REMOVE, WALKS, 4_600),
+];
 
 #[test]
-fn walks_beside_an_insertion(rt: HostRuntime) -> Result<(), Fail> {
-    explore(&rt, ONE, INSERT, WALKS, 4_700)
+fn walks_beside_calls_on_keys(rt: HostRuntime) -> Result<(), Fail> {
+    explore_rows(&rt, ONE, WALKS_BESIDE_CALLS)
 }
 
-#[test]
-fn walks_beside_a_removal(rt: HostRuntime) -> Result<(), Fail> {
-    explore(&rt, ONE, REMOVE, WALKS, 4_600)
-}
+/// Walks beside guards and entries.
+const WALKS_BESIDE_GUARDS: &[Row] = &[
+    Row("a shared guard", SHARED, WALKS, 3_300),
+    Row("an exclusive guard", EXCLUSIVE, WALKS, 6_100),
+    Row("entries", VACANT, WALKS, 6_100),
+];
 
 #[test]
-fn walks_beside_a_shared_guard(rt: HostRuntime) -> Result<(), Fail> {
-    explore(&rt, ONE, SHARED, WALKS, 3_300)
+fn walks_beside_guards_and_entries(rt: HostRuntime) -> Result<(), Fail> {
+    explore_rows(&rt, ONE, WALKS_BESIDE_GUARDS)
 }
 
-#[test]
-fn walks_beside_an_exclusive_guard(rt: HostRuntime) -> Result<(), Fail> {
-    explore(&rt, ONE, EXCLUSIVE, WALKS, 6_100)
-}
+/// Walks beside a guard that becomes shared, and beside tries.
+const WALKS_BESIDE_TRIES: &[Row] = &[
+    Row("a guard that becomes shared", DOWNGRADED, WALKS, 8_400),
+    Row("tries", TRIES, WALKS, 8_400),
+];
 
 #[test]
-fn walks_beside_a_guard_that_becomes_shared(rt: HostRuntime) -> Result<(), Fail> {
-    explore(&rt, ONE, DOWNGRADED, WALKS, 8_400)
+fn walks_beside_guards_that_become_shared_and_tries(rt: HostRuntime) -> Result<(), Fail> {
+    explore_rows(&rt, ONE, WALKS_BESIDE_TRIES)
 }
 
-#[test]
-fn walks_beside_entries(rt: HostRuntime) -> Result<(), Fail> {
-    explore(&rt, ONE, VACANT, WALKS, 6_100)
-}
+/// Walks beside one that reads, and beside one that takes the next shard before it gives one back.
+const BESIDE_READING_WALKS: &[Row] = &[
+    Row("reads", READS, WALKS, 8_500),
+    Row("hands over", READS_AND_ADDS, BESIDE_A_HANDOVER, 6_000),
+];
 
 #[test]
-fn walks_beside_tries(rt: HostRuntime) -> Result<(), Fail> {
-    explore(&rt, ONE, TRIES, WALKS, 8_400)
+fn walks_beside_walks_that_read(rt: HostRuntime) -> Result<(), Fail> {
+    explore_rows(&rt, ONE, BESIDE_READING_WALKS)
 }
 
-#[test]
-fn a_reading_walk_beside_walks(rt: HostRuntime) -> Result<(), Fail> {
-    explore(&rt, ONE, READS, WALKS, 8_500)
-}
+/// Walks beside one of a shard at a time, and beside one that counts.
+const BESIDE_OTHER_WALKS: &[Row] = &[
+    Row("of a shard at a time", KEEPS, BESIDE_A_RETAIN, 6_100),
+    Row("counts", COUNTS, BESIDE_A_COUNT, 4_400),
+];
 
 #[test]
-fn a_walk_that_hands_over_beside_walks(rt: HostRuntime) -> Result<(), Fail> {
-    explore(&rt, ONE, READS_AND_ADDS, BESIDE_A_HANDOVER, 6_000)
+fn walks_beside_walks_of_a_shard_at_a_time(rt: HostRuntime) -> Result<(), Fail> {
+    explore_rows(&rt, ONE, BESIDE_OTHER_WALKS)
 }
 
-#[test]
-fn walks_of_one_shard_at_a_time_beside_walks(rt: HostRuntime) -> Result<(), Fail> {
-    explore(&rt, ONE, KEEPS, BESIDE_A_RETAIN, 6_100)
-}
+/// Calls on the one shard beside calls on the other, and walks over both.
+const ON_TWO_SHARDS: &[Row] = &[
+    Row("calls on keys", KEYED, ON_SHARD_0, 1_800),
+    Row("guards", GUARDED, ON_SHARD_0, 4_200),
+    Row("tries", TRIES, ON_SHARD_0, 1_800),
+    Row("walks that stop", STOPS, CHANGES, 2_600),
+    Row("walks that change", READS_AND_ADDS, READS_AND_KEEPS, 3_600),
+    Row("walks that count", ADDS, COUNTS, 1_500),
+];
 
 #[test]
-fn walks_that_count_beside_walks(rt: HostRuntime) -> Result<(), Fail> {
-    explore(&rt, ONE, COUNTS, BESIDE_A_COUNT, 4_400)
+fn calls_and_walks_on_two_shards(rt: HostRuntime) -> Result<(), Fail> {
+    explore_rows(&rt, BOTH, ON_TWO_SHARDS)
 }
 
-#[test]
-fn calls_on_two_shards(rt: HostRuntime) -> Result<(), Fail> {
-    explore(&rt, BOTH, KEYED, ON_SHARD_0, 1_800)?;
-    explore(&rt, BOTH, GUARDED, ON_SHARD_0, 4_200)?;
-    explore(&rt, BOTH, TRIES, ON_SHARD_0, 1_800)
-}
+/// Walks over two shards beside calls on one.
+const WALKS_OVER_TWO: &[Row] = &[
+    Row("a removal", REMOVE_2, WALKS, 6_700),
+    Row("guards", GUARDS_ON_SHARD_0, WALKS, 8_300),
+];
 
 #[test]
-fn walks_over_two_shards_beside_a_removal(rt: HostRuntime) -> Result<(), Fail> {
-    explore(&rt, BOTH, REMOVE_2, WALKS, 6_700)
-}
-
-#[test]
-fn walks_over_two_shards_beside_guards(rt: HostRuntime) -> Result<(), Fail> {
-    explore(&rt, BOTH, GUARDS_ON_SHARD_0, WALKS, 8_300)
-}
-
-#[test]
-fn walks_over_two_shards_that_stop(rt: HostRuntime) -> Result<(), Fail> {
-    explore(&rt, BOTH, STOPS, CHANGES, 2_600)
-}
-
-#[test]
-fn two_walks_over_two_shards(rt: HostRuntime) -> Result<(), Fail> {
-    explore(&rt, BOTH, READS_AND_ADDS, READS_AND_KEEPS, 3_600)?;
-    explore(&rt, BOTH, ADDS, COUNTS, 1_500)
+fn walks_over_two_shards_beside_calls(rt: HostRuntime) -> Result<(), Fail> {
+    explore_rows(&rt, BOTH, WALKS_OVER_TWO)
 }

@@ -2,9 +2,9 @@
 //! hold these and give them up.
 
 use crate::rules::{broken_by_threads, open_sections, refuses};
-use crate::worlds::World;
+use crate::worlds::{World, drain, run};
 use mapworld::Step;
-use mapworld_explorer::{ahead_of, world_behind};
+use mapworld_explorer::{Ahead, ahead_of, world_behind};
 use mapworld_text::{Case, read};
 use std::alloc::Global;
 use std::collections::HashSet;
@@ -85,7 +85,7 @@ impl<'r, 'c, 'a, R: AllocGlobal + Abort> Beside<'r, 'c, 'a, R> {
                 if stands_as_wanted(&world, thread) {
                     break;
                 }
-                world.run(&[plain(thread)])?;
+                run(&mut world, &[plain(thread)])?;
                 schedule.push(plain(thread))?;
             }
         }
@@ -96,8 +96,8 @@ impl<'r, 'c, 'a, R: AllocGlobal + Abort> Beside<'r, 'c, 'a, R> {
     fn make_all(&mut self) -> Result<(), Fail> {
         let first = self.first()?;
         let mut schedules = Vec::new(self.rt.alloc());
-        let world = world_behind(self.rt.alloc(), self.case, &first)?;
-        self.look_at(world, first, &mut schedules)?;
+        let mut world = world_behind(self.rt.alloc(), self.case, &first)?;
+        self.look_at(&mut world, first, &mut schedules)?;
         for _ in 0..MOST_STEPS {
             schedules = self.longer(&schedules)?;
         }
@@ -110,47 +110,74 @@ impl<'r, 'c, 'a, R: AllocGlobal + Abort> Beside<'r, 'c, 'a, R> {
         let mut longer = Vec::new(self.rt.alloc());
         for schedule in schedules {
             for thread in 0..4 {
-                let mut world = world_behind(self.rt.alloc(), self.case, schedule)?;
-                if world.can_move(thread) {
-                    world.run(&[plain(thread)])?;
-                    let mut whole = Vec::from_slice(self.rt.alloc(), schedule)?;
-                    whole.push(plain(thread))?;
-                    self.look_at(world, whole, &mut longer)?;
-                }
+                self.make(schedule, thread, &mut longer)?;
             }
         }
         Ok(longer)
     }
 
-    /// Looks at a world behind a schedule, which is kept if the state is new; and drains it.
-    fn look_at(
+    /// Makes the thread's step behind a schedule, if it can move.
+    fn make(
         &mut self,
-        world: World,
-        schedule: Vec<Step>,
+        schedule: &[Step],
+        thread: usize,
         longer: &mut Vec<Vec<Step>>,
     ) -> Result<(), Fail> {
-        let ahead = ahead_of(self.rt.alloc(), &world)?;
+        let mut world = world_behind(self.rt.alloc(), self.case, schedule)?;
+        if world.can_move(thread) {
+            run(&mut world, &[plain(thread)])?;
+            let mut whole = Vec::from_slice(self.rt.alloc(), schedule)?;
+            whole.push(plain(thread))?;
+            self.look_at(&mut world, whole, longer)?;
+        }
+        Ok(())
+    }
+
+    /// Notes what is ahead of a state, and tells whether that is new.
+    fn is_new(&mut self, ahead: &Ahead) -> Result<bool, Fail> {
         if self.known.contains(ahead.as_str()) {
-            return Ok(());
+            return Ok(false);
         }
         let text = String::from_str(self.rt.alloc(), ahead.as_str())?;
         let _ = self.known.insert(text)?;
+        Ok(true)
+    }
+
+    /// Counts a new state.
+    fn count(&mut self, world: &World) {
         self.found.states = self.found.states.saturating_add(1);
-        self.found.sections = self.found.sections.max(open_sections(&world));
-        let broken = broken_by_threads(&world);
-        assert!(self.rt; broken.is_none(), "{broken:?} by {schedule:?}");
-        let mut world = world;
-        let is_kept = refuses(self.rt.alloc(), &mut world, &ahead)?;
-        assert!(self.rt; is_kept, "a refused step changes nothing, by {schedule:?}");
-        if is_at_rest(&world) {
+        self.found.sections = self.found.sections.max(open_sections(world));
+        if is_at_rest(world) {
             self.found.ends = self.found.ends.saturating_add(1);
         }
+    }
+
+    /// Looks at a world behind a schedule, which is kept if the state is new; and drains it.
+    fn look_at(
+        &mut self,
+        world: &mut World,
+        schedule: Vec<Step>,
+        longer: &mut Vec<Vec<Step>>,
+    ) -> Result<(), Fail> {
+        let ahead = ahead_of(self.rt.alloc(), world)?;
+        if self.is_new(&ahead)? {
+            self.count(world);
+            self.must_drain(world, &ahead, &schedule)?;
+            longer.push(schedule)?;
+        }
+        Ok(())
+    }
+
+    /// Ends the test unless the rules hold of a world behind a schedule, a refused step changes nothing, and a drain
+    /// leads to its end within the bound.
+    fn must_drain(&self, world: &mut World, ahead: &Ahead, schedule: &[Step]) -> Result<(), Fail> {
+        let broken = broken_by_threads(world);
+        assert!(self.rt; broken.is_none(), "{broken:?} by {schedule:?}");
+        let is_kept = refuses(self.rt.alloc(), world, ahead)?;
+        assert!(self.rt; is_kept, "a refused step changes nothing, by {schedule:?}");
         let bound = world.bound();
-        assert!(self.rt;
-            world.drain() <= bound && is_at_rest(&world),
-            "by {schedule:?}"
-        );
-        longer.push(schedule)?;
+        let is_drained = drain(world) <= bound && is_at_rest(world);
+        assert!(self.rt; is_drained, "by {schedule:?}");
         Ok(())
     }
 }

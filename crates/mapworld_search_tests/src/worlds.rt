@@ -1,10 +1,10 @@
 //! Worlds of two threads and two shards, and what they show beside the plain map of `mapworld_oracle`.
 
-use mapworld::{MapWorld, SpreadState};
+use mapworld::{MapWorld, RunFault, SpreadState, Step};
 use mapworld_oracle::judge::{Halfway, broken_at_end, broken_halfway, shows_ends};
 use mapworld_oracle::replay::{Broken, Made, Seen};
 use mapworld_oracle::said::replies_of;
-use mapworld_text::{Asked, Case, Change, read};
+use mapworld_text::{Asked, Case, Change, programs_again, read};
 use std::alloc::{AllocError, Global};
 use std::test::Fail;
 
@@ -38,15 +38,20 @@ pub fn world_of(
     pairs: &[(u64, u64)],
     programs: &[Vec<Asked>],
 ) -> Result<World, Fail> {
-    let mut first = Vec::with_capacity(alloc, pairs.len())?;
-    for pair in pairs {
-        first.push(*pair)?;
-    }
-    let mut asked = Vec::with_capacity(alloc, programs.len())?;
-    for program in programs {
-        asked.push(copy_of(alloc, program)?)?;
-    }
+    let first = Vec::from_slice(alloc, pairs)?;
+    let asked = programs_again(alloc, programs)?;
     Ok(MapWorld::new(alloc, 2, SpreadState, first, asked)?)
+}
+
+/// Makes steps, or says which can't be made. Tests step a world by this alone, so that what `run` promises is looked at
+/// once.
+pub fn run(world: &mut World, steps: &[Step]) -> Result<(), RunFault> {
+    world.run(steps)
+}
+
+/// Drains a world, by so many steps.
+pub fn drain(world: &mut World) -> u64 {
+    world.drain()
 }
 
 /// The contents as pairs of numbers.
@@ -93,6 +98,15 @@ fn is_at_rest(world: &World, calls: usize) -> bool {
     world.replies().len() == calls && nobody_waits && world.word(0) == 0 && world.word(1) == 0
 }
 
+/// The shard of each key below that number.
+fn routes_of(alloc: Global, world: &World, keys: u64) -> Result<Vec<usize>, AllocError> {
+    let mut routes = Vec::new(alloc);
+    for key in 0..keys {
+        routes.push(world.shard_of(&key))?;
+    }
+    Ok(routes)
+}
+
 /// The rule that a world at its end breaks, or broke at a moment before, if it breaks one. Its keys are below that
 /// number.
 pub fn broken(
@@ -104,10 +118,7 @@ pub fn broken(
     if !is_at_rest(world, made.calls()) {
         return Ok(Some("at its end all is answered and nobody waits"));
     }
-    let mut routes = Vec::new(made.alloc);
-    for key in 0..keys {
-        routes.push(world.shard_of(&key))?;
-    }
+    let routes = routes_of(made.alloc, world, keys)?;
     let replies = replies_of(made.alloc, world.replies())?;
     let pairs = contents(made.alloc, world)?;
     let seen = Seen {

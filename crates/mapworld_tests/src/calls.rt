@@ -1,7 +1,7 @@
 //! What no clause says: that the definitions of the programs and of the hash are the ones meant, the printed text, and
 //! that blocks are compared by what they show.
 
-use super::worlds::{World, programs_of, step_times, world_of};
+use super::worlds::{Look, Numbers, looked_at, step_times};
 use dashmap_table::{SpreadState, spread_hash};
 use mapworld_calls::past::Past;
 use mapworld_calls::{
@@ -28,22 +28,24 @@ const INSERT: Call = Ask::Keyed(Keyed::Insert(2, 3));
 
 const REMOVE: Call = Ask::Keyed(Keyed::Remove(1));
 
+/// Programs, and whether they hold one guard at a time and none at the end.
+const PROGRAMS: &[(&[Call], bool)] = &[
+    (&[], true),
+    (&[READ, DROP], true),
+    (&[GET, READ, DROP], true),
+    (&[GET, READ, READ, DROP, REMOVE], true),
+    (&[GET_MUT, WRITE, READ, DROP], true),
+    (&[GET], false),
+    (&[GET_MUT, WRITE], false),
+    (&[GET, READ], false),
+    (&[GET, GET, DROP], false),
+    (&[GET, INSERT, DROP], false),
+];
+
 #[test]
 fn a_program_holds_one_guard(rt: HostRuntime) {
-    let table: [(&[Call], bool); 10] = [
-        (&[], true),
-        (&[READ, DROP], true),
-        (&[GET, READ, DROP], true),
-        (&[GET, READ, READ, DROP, REMOVE], true),
-        (&[GET_MUT, WRITE, READ, DROP], true),
-        (&[GET], false),
-        (&[GET_MUT, WRITE], false),
-        (&[GET, READ], false),
-        (&[GET, GET, DROP], false),
-        (&[GET, INSERT, DROP], false),
-    ];
-    for (i, (program, want)) in table.into_iter().enumerate() {
-        assert!(rt; holds_one_guard(program) == want, "program {i}");
+    for (i, (program, want)) in PROGRAMS.iter().enumerate() {
+        assert!(rt; holds_one_guard(program) == *want, "program {i}");
     }
 }
 
@@ -52,31 +54,26 @@ fn a_program_takes_guard_numbers(rt: HostRuntime) {
     assert!(rt; guard_numbers(&[INSERT, GET, READ, DROP], 2) == 2);
 }
 
+/// Keys and their hashes.
+const SPREAD: &[(u64, u64)] = &[
+    (0, 0),
+    (1, 0x0100_0000_0000_0000),
+    (2, 0x0200_0000_0000_0000),
+    (3, 0x0300_0000_0000_0000),
+    (256, 0),
+    (257, 0x0100_0000_0000_0000),
+];
+
 #[test]
 fn keys_spread(rt: HostRuntime) {
-    let table = [
-        (0, 0),
-        (1, 0x0100_0000_0000_0000),
-        (2, 0x0200_0000_0000_0000),
-        (3, 0x0300_0000_0000_0000),
-        (256, 0),
-        (257, 0x0100_0000_0000_0000),
-    ];
-    for (key, want) in table {
-        assert!(rt; SpreadState.hash_one(key) == want, "key {key}");
-        assert!(rt; spread_hash(key) == want, "key {key}");
+    for (key, want) in SPREAD {
+        let is_so = SpreadState.hash_one(*key) == *want && spread_hash(*key) == *want;
+        assert!(rt; is_so, "key {key}");
     }
 }
 
-#[test]
-fn calls_are_shown(rt: HostRuntime) -> Result<(), Fail> {
-    let alloc = rt.alloc();
-    let shown = format!(in alloc;
-        "{INSERT:?} {REMOVE:?} {GET:?} {GET_MUT:?} {READ:?} {WRITE:?} {DROP:?}"
-    )?;
-    let want =
-        "Keyed(Insert(2, 3)) Keyed(Remove(1)) Begin(Get(1)) Begin(GetMut(1)) Held(Read(0)) Held(Write(0)) Held(Drop)";
-    assert!(rt; shown.as_str() == want);
+/// Whether a reply is shown with all that it has.
+fn is_reply_shown(alloc: Global) -> Result<bool, Fail> {
     let reply: Reply<u64, u64, u8, Global> = Reply {
         thread: 0,
         call: 1,
@@ -86,7 +83,17 @@ fn calls_are_shown(rt: HostRuntime) -> Result<(), Fail> {
     };
     let shown = format!(in alloc; "{reply:?}")?;
     let want = "Reply { thread: 0, call: 1, start: 2, end: 4, answer: Pair(1, 3) }";
-    assert!(rt; shown.as_str() == want);
+    Ok(shown.as_str() == want)
+}
+
+#[test]
+fn calls_are_shown(rt: HostRuntime) -> Result<(), Fail> {
+    let shown = format!(in rt.alloc();
+        "{INSERT:?} {REMOVE:?} {GET:?} {GET_MUT:?} {READ:?} {WRITE:?} {DROP:?}"
+    )?;
+    let want =
+        "Keyed(Insert(2, 3)) Keyed(Remove(1)) Begin(Get(1)) Begin(GetMut(1)) Held(Read(0)) Held(Write(0)) Held(Drop)";
+    assert!(rt; shown.as_str() == want && is_reply_shown(rt.alloc())?);
     Ok(())
 }
 
@@ -113,17 +120,27 @@ fn a_block_shows_six_fields(rt: HostRuntime) -> Result<(), Fail> {
     Ok(())
 }
 
+/// Looks at what a world shows behind three steps of its first thread: start, load and exchange, by which the shard is
+/// its own.
+#[derive(Drop)]
+struct ThreeSteps;
+
+impl Look for ThreeSteps {
+    type Seen = String;
+
+    fn look<W: Numbers>(self, alloc: Global, world: &mut W) -> Result<String, Fail> {
+        if step_times(world, 0, 3) {
+            Ok(format!(in alloc; "{world:?}")?)
+        } else {
+            Err(Fail::new("a step isn't made"))
+        }
+    }
+}
+
 #[test]
 fn a_world_shows_its_threads_words_and_pairs(rt: HostRuntime) -> Result<(), Fail> {
-    let programs = programs_of(
-        rt.alloc(),
-        "thread a\n  insert 1 10\nthread b\n  get 3\n    drop\n",
-    )?;
-    let made = world_of(rt.alloc(), 2, SpreadState, &[(3, 7)], &programs);
-    let mut world: World = made.ok_or("no world")?;
-    // Start, load and exchange: the shard is thread 0's.
-    assert!(rt; step_times(&mut world, 0, 3));
-    let shown = format!(in rt.alloc(); "{world:?}")?;
+    let text = "thread a\n  insert 1 10\nthread b\n  get 3\n    drop\n";
+    let shown = looked_at(rt.alloc(), 2, &[(3, 7)], text, ThreeSteps)?;
     let want = "MapWorld { steps: 3, threads: [Running, Running], words: [0, 8], pairs: {3: 7} }";
     assert!(rt; shown.as_str() == want, "{shown}");
     Ok(())

@@ -1,47 +1,29 @@
 //! Worlds beside the plain map of `mapworld_oracle`.
 
-use super::worlds::World;
+use super::worlds::Numbers;
 use mapworld_oracle::judge::{Halfway, broken_at_end, broken_halfway, shows_ends};
 use mapworld_oracle::replay::{Broken, Made, Seen};
-use mapworld_oracle::said::replies_of;
 use mapworld_text::Change;
-use std::alloc::{AllocError, Allocator, Global};
-use std::hash::BuildHasher;
+use std::alloc::{AllocError, Global};
 
 /// The shard of each key below that number.
-fn routes_of<S: BuildHasher, A: Allocator>(
-    alloc: Global,
-    world: &World<S, A>,
-    keys: u64,
-) -> Result<Vec<usize>, AllocError> {
+fn routes_of<W: Numbers>(alloc: Global, world: &W, keys: u64) -> Result<Vec<usize>, AllocError> {
     let mut routes = Vec::new(alloc);
     for key in 0..keys {
-        routes.push(world.shard_of(&key))?;
+        routes.push(world.route(key))?;
     }
     Ok(routes)
 }
 
-/// The contents as pairs of numbers.
-fn contents<S: BuildHasher, A: Allocator>(
-    alloc: Global,
-    world: &World<S, A>,
-) -> Result<Vec<(u64, u64)>, AllocError> {
-    let mut pairs = Vec::new(alloc);
-    for (key, value) in world.pairs() {
-        pairs.push((*key, *value))?;
-    }
-    Ok(pairs)
-}
-
 /// What the world shows now, behind steps of these threads and these deadlines; none where a block doesn't show the end
 /// of its call exactly where that is answered.
-pub fn shown_now<S: BuildHasher, A: Allocator>(
+pub fn shown_now<W: Numbers>(
     alloc: Global,
-    world: &World<S, A>,
+    world: &W,
     schedule: Vec<usize>,
     deadlines: Vec<(usize, u64)>,
 ) -> Result<Option<Halfway>, AllocError> {
-    let replies = replies_of(alloc, world.replies())?;
+    let replies = world.said(alloc)?;
     let seen = Seen {
         blocks: world.blocks(),
         replies: &replies,
@@ -54,41 +36,34 @@ pub fn shown_now<S: BuildHasher, A: Allocator>(
     Ok(Some(Halfway {
         schedule,
         deadlines,
-        pairs: contents(alloc, world)?,
+        pairs: world.walked(alloc)?,
         replies: replies.len(),
         blocks: world.blocks().len(),
     }))
 }
 
 /// Whether every call is answered, every word is 0 and nobody waits.
-pub fn is_at_rest<S: BuildHasher, A: Allocator + Clone + Drop>(
-    world: &World<S, A>,
-    calls: usize,
-    shards: usize,
-) -> bool {
-    let nobody_waits = (0..shards.saturating_mul(2)).all(|key| match world.queue(key) {
-        Ok(threads) => threads.is_empty(),
-        Err(_) => false,
-    });
-    world.replies().len() == calls
-        && nobody_waits
-        && (0..shards).all(|shard| world.word(shard) == 0)
+fn is_at_rest<W: Numbers>(world: &W, replies: usize, made: Made<'_, Change>) -> bool {
+    let queues = made.shards.saturating_mul(2);
+    replies == made.calls()
+        && (0..queues).all(|queue| world.is_empty(queue))
+        && (0..made.shards).all(|shard| world.word(shard) == 0)
 }
 
 /// The rule that a world at its end breaks, or broke at a moment before, if it breaks one. Its keys are below that
 /// number.
-pub fn broken<S: BuildHasher, A: Allocator + Clone + Drop>(
+pub fn broken<W: Numbers>(
     made: Made<'_, Change>,
-    world: &World<S, A>,
+    world: &W,
     keys: u64,
     halfway: &Halfway,
 ) -> Result<Broken, AllocError> {
-    if !is_at_rest(world, made.calls(), made.shards) {
+    let replies = world.said(made.alloc)?;
+    if !is_at_rest(world, replies.len(), made) {
         return Ok(Some("at its end all is answered and nobody waits"));
     }
     let routes = routes_of(made.alloc, world, keys)?;
-    let replies = replies_of(made.alloc, world.replies())?;
-    let pairs = contents(made.alloc, world)?;
+    let pairs = world.walked(made.alloc)?;
     let seen = Seen {
         blocks: world.blocks(),
         replies: &replies,

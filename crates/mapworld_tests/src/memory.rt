@@ -2,23 +2,39 @@
 //! each growth is refused once. The program `growths` refuses single growths.
 
 use super::judged::{at_first, broken};
-use super::worlds::{World, are_finished, programs_of, step_through, step_times, world_of};
+use super::worlds::{
+    Look, Numbers, are_finished, count_said, looked_at, looked_in, programs_of, step_through,
+    step_times,
+};
 use dashmap_table::SpreadState;
 use linked_list_allocator::LocalHeap;
-use mapworld::{Answer, Ask, Keyed, Walk};
 use mapworld_oracle::replay::{Broken, Made};
-use mapworld_text::{Asked, Change};
+use mapworld_oracle::said::Said;
+use mapworld_text::Change;
 use std::alloc::{AllocError, Global};
 use std::process::Abort;
 use std::test::Fail;
-
-type Small<'h> = World<SpreadState, &'h LocalHeap>;
 
 /// How large the heaps are that have enough for each of the worlds.
 const SIZE: usize = 16384;
 
 /// More keys than the programs use.
 const KEYS: u64 = 40;
+
+/// Takes pieces of that size, as many as there are.
+fn take<'h>(
+    heap: &'h LocalHeap,
+    size: usize,
+    pieces: &mut Vec<Vec<u8, &'h LocalHeap>>,
+) -> Result<(), AllocError> {
+    for _ in 0..SIZE {
+        match Vec::with_capacity(heap, size) {
+            Ok(piece) => pieces.push(piece)?,
+            Err(_) => break,
+        }
+    }
+    Ok(())
+}
 
 /// Takes all memory that is left, in pieces.
 fn hoard<'h>(
@@ -27,63 +43,63 @@ fn hoard<'h>(
 ) -> Result<Vec<Vec<u8, &'h LocalHeap>>, AllocError> {
     let mut pieces = Vec::new(alloc);
     for size in [4096, 1024, 256, 64, 16] {
-        for _ in 0..SIZE {
-            match Vec::with_capacity(heap, size) {
-                Ok(piece) => pieces.push(piece)?,
-                Err(_) => break,
-            }
-        }
+        take(heap, size, &mut pieces)?;
     }
     Ok(pieces)
 }
 
-/// Whether each call put a new pair in.
-fn are_added(world: &World) -> bool {
-    world
-        .replies()
-        .iter()
-        .all(|reply| matches!(reply.answer, Answer::None))
+/// A program that puts in so many keys, which are even and so all on one shard.
+fn insertions(alloc: Global, keys: u64) -> Result<String, AllocError> {
+    let mut text = String::from_str(alloc, "thread a\n")?;
+    for number in 0..keys {
+        write!(text, "  insert {} {number}\n", number << 1)?;
+    }
+    Ok(text)
 }
 
-/// How many pairs there are.
-fn count_of(world: &World) -> usize {
-    let mut count = 0usize;
-    for _pair in world.pairs() {
-        count = count.wrapping_add(1);
+/// Looks whether a world puts so many new pairs in by its one thread, the keys twice their values.
+#[derive(Drop)]
+struct Grows(u64);
+
+impl Look for Grows {
+    type Seen = bool;
+
+    fn look<W: Numbers>(self, alloc: Global, world: &mut W) -> Result<bool, Fail> {
+        let is_done = step_through(world, 0) && are_finished(world);
+        let added = count_said(alloc, world, Said::None)? as u64;
+        let pairs = world.walked(alloc)?.len() as u64;
+        let last = self.0.saturating_sub(1);
+        let is_there = world.found(last << 1) == Some((last << 1, last));
+        Ok(is_done && added == self.0 && pairs == self.0 && is_there)
     }
-    count
 }
 
 #[test]
 fn a_shard_grows_to_thousands_of_pairs(rt: HostRuntime) -> Result<(), Fail> {
-    let mut program: Vec<Asked> = Vec::new(rt.alloc());
-    for number in 0..3000_u64 {
-        // Even keys are all on one shard.
-        program.push(Ask::Keyed(Keyed::Insert(number << 1, number)))?;
-    }
-    let mut programs = Vec::new(rt.alloc());
-    programs.push(program)?;
-    let made = world_of(rt.alloc(), 2, SpreadState, &[], &programs);
-    let mut world: World = made.ok_or("no world")?;
-    assert!(rt; step_through(&mut world, 0) && are_finished(&world));
-    assert!(rt; are_added(&world) && count_of(&world) == 3000);
-    assert!(rt; world.pair(&5998) == Some((&5998, &2999)));
+    let text = insertions(rt.alloc(), 3000)?;
+    assert!(rt; looked_at(rt.alloc(), 2, &[], text.as_str(), Grows(3000))?);
     Ok(())
+}
+
+/// Looks whether a world makes all its walks, and shows no visit.
+#[derive(Drop)]
+struct NoVisits;
+
+impl Look for NoVisits {
+    type Seen = bool;
+
+    fn look<W: Numbers>(self, _alloc: Global, world: &mut W) -> Result<bool, Fail> {
+        Ok(step_through(world, 0) && are_finished(world) && world.blocks().is_empty())
+    }
 }
 
 #[test]
 fn walks_with_the_stop_0_take_no_room_for_visits(rt: HostRuntime) -> Result<(), Fail> {
-    let mut program: Vec<Asked> = Vec::new(rt.alloc());
-    for _ in 0..1000 {
-        program.push(Ask::Walk(Walk::Iter(Change::NONE, Some(0))))?;
-    }
-    let mut programs = Vec::new(rt.alloc());
-    programs.push(program)?;
+    let programs = programs_of(rt.alloc(), "thread a\n  iter stop 0\nagain 999\n")?;
     // A block for each visit of 64 shards would take seven times as much.
     let heap = LocalHeap::new(rt.alloc(), 500_000)?;
-    let mut world = world_of(&heap, 64, SpreadState, &[], &programs).ok_or("no world")?;
-    let is_done = step_through(&mut world, 0);
-    assert!(rt; is_done && are_finished(&world) && world.blocks().is_empty());
+    let seen = looked_in(rt.alloc(), &heap, 64, SpreadState, &[], &programs, NoVisits)?;
+    assert!(rt; seen == Some(true));
     Ok(())
 }
 
@@ -97,7 +113,7 @@ enum When {
 }
 
 /// The next thread in turn that can move, if one can.
-fn next_thread(world: &Small<'_>, last: usize) -> Option<usize> {
+fn next_thread<W: Numbers>(world: &W, last: usize) -> Option<usize> {
     let threads = world.threads();
     (1..threads.saturating_add(1))
         .map(|more| last.wrapping_add(more).checked_rem(threads).unwrap_or(0))
@@ -106,7 +122,7 @@ fn next_thread(world: &Small<'_>, last: usize) -> Option<usize> {
 
 /// Steps the threads in turn up to so many steps, and gives who made the last one; none where a step of a thread that
 /// can move isn't done.
-fn step_some(world: &mut Small<'_>, steps: u64) -> Option<usize> {
+fn step_some<W: Numbers>(world: &mut W, steps: u64) -> Option<usize> {
     let mut thread = 0;
     for _ in 0..steps {
         match next_thread(world, thread) {
@@ -121,7 +137,7 @@ fn step_some(world: &mut Small<'_>, steps: u64) -> Option<usize> {
 }
 
 /// Makes a step of the next thread in turn, if one can move, and says whether it was done.
-fn step_next(world: &mut Small<'_>, last: Option<usize>) -> bool {
+fn step_next<W: Numbers>(world: &mut W, last: Option<usize>) -> bool {
     match last {
         Some(last) => match next_thread(world, last) {
             Some(next) => step_times(world, next, 1),
@@ -133,10 +149,10 @@ fn step_next(world: &mut Small<'_>, last: Option<usize>) -> bool {
 
 /// Runs the world to its end, without memory when that is to be; and says whether all steps of threads that can move
 /// were done.
-fn run_without(
+fn run_without<W: Numbers>(
     alloc: Global,
     heap: &LocalHeap,
-    world: &mut Small<'_>,
+    world: &mut W,
     when: When,
 ) -> Result<bool, AllocError> {
     let (When::Step(number) | When::Drain(number)) = when;
@@ -157,32 +173,46 @@ fn run_without(
 /// Whether a call was refused, and the rule that is broken, if one is.
 type Outcome = (bool, Broken);
 
-/// Runs a world without memory at that time.
-fn outcome_of(
-    made: Made<'_, Change>,
-    heap: &LocalHeap,
-    world: &mut Small<'_>,
+/// Runs a world without memory at that time, and looks at what came of it.
+#[derive(Drop)]
+struct Short<'a> {
+    made: Made<'a, Change>,
+    heap: &'a LocalHeap,
     when: When,
-) -> Result<Outcome, Fail> {
-    if !run_without(made.alloc, heap, world, when)? {
-        return Ok((false, Some("a step of a thread that can move is made")));
+}
+
+impl<'a> Look for Short<'a> {
+    type Seen = Outcome;
+
+    fn look<W: Numbers>(self, alloc: Global, world: &mut W) -> Result<Outcome, Fail> {
+        if !run_without(alloc, self.heap, world, self.when)? {
+            return Ok((false, Some("a step of a thread that can move is made")));
+        }
+        let refused = count_said(alloc, world, Said::NoMemory)?;
+        let first = at_first(alloc, self.made.pairs)?;
+        let broken = broken(self.made, world, KEYS, &first)?;
+        Ok((refused > 0, broken))
     }
-    let replies = world.replies().iter();
-    let refused = replies
-        .filter(|reply| matches!(reply.answer, Answer::NoMemory))
-        .count();
-    let first = at_first(made.alloc, made.pairs)?;
-    let broken = broken(made, world, KEYS, &first)?;
-    Ok((refused > 0, broken))
 }
 
 /// Makes a world and runs it without memory at that time.
 fn outcome_without(made: Made<'_, Change>, when: When) -> Result<Outcome, Fail> {
     let heap = LocalHeap::new(made.alloc, SIZE)?;
-    match world_of(&heap, made.shards, SpreadState, made.pairs, made.programs) {
-        Some(mut world) => outcome_of(made, &heap, &mut world, when),
-        None => Ok((false, Some("a world is made"))),
-    }
+    let look = Short {
+        made,
+        heap: &heap,
+        when,
+    };
+    let seen = looked_in(
+        made.alloc,
+        &heap,
+        made.shards,
+        SpreadState,
+        made.pairs,
+        made.programs,
+        look,
+    )?;
+    Ok(seen.unwrap_or((false, Some("a world is made"))))
 }
 
 /// Whether calls of programs are refused for want of memory.

@@ -55,30 +55,36 @@ pub enum Shape {
 fn on_key(random: &mut Random, kind: u64, key: u64) -> Option<Asked> {
     let value = random.below(10);
     let change = Change::NONE;
-    let ask = match kind {
-        0 => Ask::Keyed(Keyed::Insert(key, value)),
-        1 => Ask::Keyed(Keyed::Remove(key)),
-        2 => Ask::Keyed(Keyed::RemoveIf(key, change.keep_below(value))),
+    match kind {
+        0 => Some(Ask::Keyed(Keyed::Insert(key, value))),
+        1 => Some(Ask::Keyed(Keyed::Remove(key))),
+        2 => Some(Ask::Keyed(Keyed::RemoveIf(key, change.keep_below(value)))),
         3 => {
-            let more = random.below(4);
-            Ask::Keyed(Keyed::RemoveIfMut(key, change.add(more).keep_below(value)))
+            let added = change.add(random.below(4));
+            Some(Ask::Keyed(Keyed::RemoveIfMut(key, added.keep_below(value))))
         }
-        4 => Ask::Keyed(Keyed::Alter(key, change.add(value))),
-        5 => Ask::Keyed(Keyed::View(key, change)),
-        6 => Ask::Keyed(Keyed::ContainsKey(key)),
-        7 => Ask::Begin(Begin::Get(key)),
-        8 => Ask::Begin(Begin::GetMut(key)),
-        9 => Ask::Begin(Begin::Entry(key)),
-        10 => Ask::Begin(Begin::TryGet(key)),
-        11 => Ask::Begin(Begin::TryGetMut(key)),
-        12 => Ask::Begin(Begin::TryEntry(key)),
-        22 => Ask::Keyed(Keyed::InsertUntil(key, value)),
-        23 => Ask::Keyed(Keyed::RemoveUntil(key)),
-        24 => Ask::Begin(Begin::GetUntil(key)),
-        25 => Ask::Begin(Begin::GetMutUntil(key)),
-        _ => return None,
-    };
-    Some(ask)
+        4 => Some(Ask::Keyed(Keyed::Alter(key, change.add(value)))),
+        5 => Some(Ask::Keyed(Keyed::View(key, change))),
+        6 => Some(Ask::Keyed(Keyed::ContainsKey(key))),
+        22 => Some(Ask::Keyed(Keyed::InsertUntil(key, value))),
+        23 => Some(Ask::Keyed(Keyed::RemoveUntil(key))),
+        _ => opening(kind, key),
+    }
+}
+
+/// An opening of that kind on that key.
+fn opening(kind: u64, key: u64) -> Option<Asked> {
+    match kind {
+        7 => Some(Ask::Begin(Begin::Get(key))),
+        8 => Some(Ask::Begin(Begin::GetMut(key))),
+        9 => Some(Ask::Begin(Begin::Entry(key))),
+        10 => Some(Ask::Begin(Begin::TryGet(key))),
+        11 => Some(Ask::Begin(Begin::TryGetMut(key))),
+        12 => Some(Ask::Begin(Begin::TryEntry(key))),
+        24 => Some(Ask::Begin(Begin::GetUntil(key))),
+        25 => Some(Ask::Begin(Begin::GetMutUntil(key))),
+        _ => None,
+    }
 }
 
 /// The walk of that kind.

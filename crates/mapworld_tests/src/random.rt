@@ -3,11 +3,12 @@
 
 use super::judged::{broken, shown_now};
 use super::programs::{KEYS, KINDS, Random, Shape, pairs, programs};
-use super::worlds::{World, world_of};
+use super::worlds::{Numbers, count_said, world_of};
 use dashmap_table::SpreadState;
-use mapworld::{Answer, Step};
+use mapworld::Step;
 use mapworld_oracle::judge::Halfway;
 use mapworld_oracle::replay::{Broken, Made};
+use mapworld_oracle::said::Said;
 use mapworld_text::Change;
 use std::alloc::{AllocError, Global};
 use std::hash::{BuildHasher, BuildHasherDefault, FoldHasher};
@@ -36,73 +37,95 @@ impl Tally {
         locked: 0,
     };
 
-    /// Counts a world whose drain took so many steps of so many.
-    fn add<S: BuildHasher>(&mut self, world: &World<S>, made: u64, bound: u64) {
+    /// Counts a world of so many steps, and so many calls that were locked out, whose drain took so many steps of so
+    /// many.
+    fn add(&mut self, steps: u64, locked: usize, made: u64, bound: u64) {
         let share = made.saturating_mul(1000).checked_div(bound).unwrap_or(0);
-        let replies = world.replies().iter();
-        let locked = replies.filter(|reply| matches!(reply.answer, Answer::Locked));
         self.worlds = self.worlds.saturating_add(1);
-        self.steps = self.steps.saturating_add(world.steps());
+        self.steps = self.steps.saturating_add(steps);
         self.drained = self.drained.saturating_add(made);
         self.share = self.share.max(share);
-        self.locked = self.locked.saturating_add(locked.count());
+        self.locked = self.locked.saturating_add(locked);
     }
 }
 
 /// Whether one pair alone has that key.
-fn is_alone<S: BuildHasher>(world: &World<S>, key: u64) -> bool {
-    let mut count: usize = 0;
-    for (other, _) in world.pairs() {
-        if *other == key {
-            count = count.saturating_add(1);
-        }
-    }
-    count == 1
+fn is_alone(pairs: &[(u64, u64)], key: u64) -> bool {
+    pairs.iter().filter(|pair| pair.0 == key).count() == 1
 }
 
-/// Whether each pair is the one that its key finds, which is looked for on the key's shard alone, and no two have equal
-/// keys.
-fn pairs_are_placed<S: BuildHasher>(world: &World<S>, shards: usize) -> bool {
-    world.pairs().all(|pair| {
-        let is_found = world.shard_of(pair.0) < shards && world.pair(pair.0) == Some(pair);
-        is_found && is_alone(world, *pair.0)
-    })
+/// Whether a pair is the one that its key finds, which is looked for on the key's shard alone, and no other of the pairs
+/// has an equal key.
+fn is_placed<W: Numbers>(
+    world: &W,
+    pairs: &[(u64, u64)],
+    (key, value): (u64, u64),
+    shards: usize,
+) -> bool {
+    let is_found = world.route(key) < shards && world.found(key) == Some((key, value));
+    is_found && is_alone(pairs, key)
+}
+
+/// Whether each pair is placed so.
+fn pairs_are_placed<W: Numbers>(
+    alloc: Global,
+    world: &W,
+    shards: usize,
+) -> Result<bool, AllocError> {
+    let pairs = world.walked(alloc)?;
+    let mut right = true;
+    for pair in &pairs {
+        right &= is_placed(world, &pairs, *pair, shards);
+    }
+    Ok(right)
 }
 
 /// How a world is run: up to so many random steps, and whether all pairs are looked at behind each.
 #[derive(Clone, Copy)]
 struct Run {
     limit: u64,
-    shards: usize,
     looks: bool,
 }
 
+/// A step of a thread that is picked at random, if it can make one.
+fn random_step<W: Numbers>(world: &W, random: &mut Random) -> Option<Step> {
+    let thread = random.below(world.threads() as u64) as usize;
+    let deadline = world.may_expire(thread) && random.below(4) == 0;
+    if deadline || world.can_move(thread) {
+        let fair = random.below(4) == 0;
+        Some(Step {
+            thread,
+            fair,
+            deadline,
+        })
+    } else {
+        None
+    }
+}
+
+/// Whether a thread can move.
+fn goes_on<W: Numbers>(world: &W) -> bool {
+    (0..world.threads()).any(|thread| world.can_move(thread))
+}
+
 /// Makes random steps, and notes them. Answers the rule that is broken, if one is.
-fn run_some<S: BuildHasher>(
-    world: &mut World<S>,
+fn run_some<W: Numbers>(
+    made: Made<'_, Change>,
+    world: &mut W,
     random: &mut Random,
     run: Run,
-    made: &mut Vec<Step>,
+    steps: &mut Vec<Step>,
 ) -> Result<Broken, AllocError> {
-    let threads = world.threads() as u64;
     for _ in 0..run.limit {
-        if run.looks && !(0..world.threads()).any(|thread| world.can_move(thread)) {
+        if run.looks && !goes_on(world) {
             break;
         }
-        let thread = random.below(threads) as usize;
-        let deadline = world.locks().may_expire(thread) && random.below(4) == 0;
-        if deadline || world.can_move(thread) {
-            let fair = random.below(4) == 0;
-            let step = Step {
-                thread,
-                fair,
-                deadline,
-            };
-            if world.run(&[step]).is_err() {
+        if let Some(step) = random_step(world, random) {
+            if world.make(step).is_err() {
                 return Ok(Some("a step of a thread that can move, or a deadline, is made"));
             }
-            made.push(step)?;
-            if run.looks && !pairs_are_placed(world, run.shards) {
+            steps.push(step)?;
+            if run.looks && !pairs_are_placed(made.alloc, world, made.shards)? {
                 return Ok(Some("each key has one pair at most, on its shard"));
             }
         }
@@ -110,10 +133,10 @@ fn run_some<S: BuildHasher>(
     Ok(None)
 }
 
-/// Drains a world, and gives the rule that is broken, if one is.
-fn drained<S: BuildHasher>(
+/// Drains a world, and gives the rule that it breaks on the way or broke at that moment, if it breaks one.
+fn drained<W: Numbers>(
     made: Made<'_, Change>,
-    world: &mut World<S>,
+    world: &mut W,
     moment: &Halfway,
     tally: &mut Tally,
 ) -> Result<Broken, AllocError> {
@@ -126,11 +149,60 @@ fn drained<S: BuildHasher>(
     if world.drain() != 0 {
         return Ok(Some("behind a drain there is nothing left to do"));
     }
-    tally.add(world, steps, bound);
+    let locked = count_said(made.alloc, world, Said::Locked)?;
+    tally.add(world.steps(), locked, steps, bound);
     broken(made, world, KEYS, moment)
 }
 
-/// Makes a world, runs it to a random moment and drains it; and gives the rule that is broken, if one is.
+/// The threads that made these steps, and their deadlines.
+fn schedule_of(
+    alloc: Global,
+    steps: &[Step],
+) -> Result<(Vec<usize>, Vec<(usize, u64)>), AllocError> {
+    let mut schedule = Vec::new(alloc);
+    let mut deadlines = Vec::new(alloc);
+    for (i, step) in steps.iter().enumerate() {
+        schedule.push(step.thread)?;
+        if step.deadline {
+            deadlines.push((step.thread, (i as u64).saturating_add(1)))?;
+        }
+    }
+    Ok((schedule, deadlines))
+}
+
+/// Runs a world to a random moment, and gives what it shows then, or the rule that is broken.
+fn moment_of<W: Numbers>(
+    made: Made<'_, Change>,
+    world: &mut W,
+    random: &mut Random,
+    run: Run,
+) -> Result<Result<Halfway, &'static str>, AllocError> {
+    let mut steps = Vec::new(made.alloc);
+    if let Some(rule) = run_some(made, world, random, run, &mut steps)? {
+        return Ok(Err(rule));
+    }
+    let (schedule, deadlines) = schedule_of(made.alloc, &steps)?;
+    match shown_now(made.alloc, world, schedule, deadlines)? {
+        Some(moment) => Ok(Ok(moment)),
+        None => Ok(Err("a block shows its end exactly where its call is answered")),
+    }
+}
+
+/// Runs a world to a random moment and drains it; and gives the rule that is broken, if one is.
+fn broken_by<W: Numbers>(
+    made: Made<'_, Change>,
+    world: &mut W,
+    random: &mut Random,
+    run: Run,
+    tally: &mut Tally,
+) -> Result<Broken, AllocError> {
+    match moment_of(made, world, random, run)? {
+        Ok(moment) => drained(made, world, &moment, tally),
+        Err(rule) => Ok(Some(rule)),
+    }
+}
+
+/// Makes a world and tries it; and gives the rule that is broken, if one is.
 fn broken_on<S: BuildHasher + Drop>(
     made: Made<'_, Change>,
     hasher: S,
@@ -138,26 +210,9 @@ fn broken_on<S: BuildHasher + Drop>(
     run: Run,
     tally: &mut Tally,
 ) -> Result<Broken, AllocError> {
-    let Some(mut world) = world_of(made.alloc, made.shards, hasher, made.pairs, made.programs)
-    else {
-        return Ok(Some("a world is made"));
-    };
-    let mut steps = Vec::new(made.alloc);
-    let by_steps = run_some(&mut world, random, run, &mut steps)?;
-    if by_steps.is_some() {
-        return Ok(by_steps);
-    }
-    let mut schedule = Vec::new(made.alloc);
-    let mut deadlines = Vec::new(made.alloc);
-    for (i, step) in steps.iter().enumerate() {
-        schedule.push(step.thread)?;
-        if step.deadline {
-            deadlines.push((step.thread, (i as u64).saturating_add(1)))?;
-        }
-    }
-    match shown_now(made.alloc, &world, schedule, deadlines)? {
-        Some(moment) => drained(made, &mut world, &moment, tally),
-        None => Ok(Some("a block shows its end exactly where its call is answered")),
+    match world_of(made.alloc, made.shards, hasher, made.pairs, made.programs) {
+        Some(mut world) => broken_by(made, &mut world, random, run, tally),
+        None => Ok(Some("a world is made")),
     }
 }
 
@@ -193,7 +248,6 @@ fn broken_in(
     let limit = random.below(1200).checked_sub(200).unwrap_or(0);
     let run = Run {
         limit,
-        shards,
         looks: false,
     };
     broken_on(made, Fold::new(), &mut random, run, tally)
@@ -211,7 +265,6 @@ fn broken_in_long(alloc: Global, seed: u64, tally: &mut Tally) -> Result<Broken,
     };
     let run = Run {
         limit: 1_000_000,
-        shards: 2,
         looks: true,
     };
     broken_on(made, SpreadState, &mut random, run, tally)
