@@ -6,10 +6,10 @@ use crate::parallel::{TIMES, sum_often};
 use crate::threads::{Mix, Team, run};
 use crate::walks::{count_all, keep_all, read_all, write_all};
 use crate::work::{
-    Fold, Map, Measured, Shared, Sip, churn, enter_all, look_up_all, map_over, put_all, take_all,
+    Fold, Map, Measured, Row, Sip, churn, enter_all, look_up_all, map_over, put_all, take_all,
 };
 use dashmap_calls::workload::clock::report;
-use lock_api_raw::RawRwLock;
+use lock_api_raw::{MakeLock, RawRwLock};
 use parking_lot_core::ParkingLot;
 use parking_lot_rwlock::LockTable;
 use std::alloc::Global;
@@ -128,34 +128,89 @@ const DEEDS: [&[Deed]; 4] = [
     ],
 ];
 
-/// Makes the calls on a new map, and prints a line for each.
-fn print_lines<S: Measured, R: Wait + Copy + Drop>(
+/// Makes a call so many times, and prints its line.
+fn print_line<S: Measured, Q: RawRwLock>(
+    rt: &HostRuntime,
+    map: &Map<S, Q>,
+    me: &mut Q::Party,
+    deed: Deed,
+) -> Result<(), Fault>
+where
+    Q::Runtime: Wait,
+{
+    let start = Instant::now(rt)?;
+    let sum = deed.run::<1_000_000, _, _>(map, me, u64::from(deed.calls()))?;
+    let name = format!(in rt.alloc(); "{}.{}", deed.name(), S::name())?;
+    report(rt, name.as_str(), start, deed.calls(), sum)?;
+    Ok(())
+}
+
+/// Makes a thousand of a call, and prints what they saw.
+fn print_sum<S: Measured, Q: RawRwLock>(
+    rt: &HostRuntime,
+    map: &Map<S, Q>,
+    me: &mut Q::Party,
+    deed: Deed,
+) -> Result<(), Fault>
+where
+    Q::Runtime: Wait,
+{
+    let sum = deed.run::<1_000, _, _>(map, me, 1_000)?;
+    println!(rt; "{}.{} saw {sum}", deed.name(), S::name())?;
+    Ok(())
+}
+
+/// Makes the calls on a new map, and prints a line for each, or, where that is asked for, a small one.
+fn print_all<S: Measured, T: Copy, Q: RawRwLock + MakeLock<T> + Drop>(
+    rt: &HostRuntime,
+    table: T,
+    me: &mut Q::Party,
+    deeds: &[Deed],
+    is_small: bool,
+) -> Result<(), Fault>
+where
+    Q::Runtime: Wait,
+{
+    let map: Map<S, Q> = map_over(rt.alloc(), table)?;
+    for deed in deeds {
+        if is_small {
+            print_sum(rt, &map, me, *deed)?;
+        } else {
+            print_line(rt, &map, me, *deed)?;
+        }
+    }
+    Ok(())
+}
+
+/// The same over rows of a table.
+fn print_over<'t, 'l, S: Measured, R: Wait>(
+    rt: &HostRuntime,
+    table: &'t LockTable<'l, R>,
+    deeds: &[Deed],
+    is_small: bool,
+) -> Result<(), Fault> {
+    let mut me = table.lot().thread_data()?;
+    print_all::<S, _, Row<'t, 'l, R>>(rt, table, &mut me, deeds, is_small)
+}
+
+/// The same for each of four maps, over a lot of their own.
+fn print_deeds<S: Measured, R: Wait + Copy + Drop>(
     rt: &HostRuntime,
     handle: R,
-    deeds: &[Deed],
+    is_small: bool,
 ) -> Result<(), Fault> {
-    let lot = ParkingLot::new(handle, rt.alloc(), 1, 7)?;
-    let table = LockTable::new(rt.alloc(), &lot, 16)?;
-    let map: Shared<'_, '_, R, S> = map_over(rt.alloc(), &table)?;
-    let mut me = lot.thread_data()?;
-    for deed in deeds {
-        let start = Instant::now(rt)?;
-        let sum = deed.run::<1_000_000, _, _>(&map, &mut me, u64::from(deed.calls()))?;
-        let name = format!(in rt.alloc(); "{}.{}", deed.name(), S::name())?;
-        report(rt, name.as_str(), start, deed.calls(), sum)?;
+    for deeds in DEEDS {
+        let lot = ParkingLot::new(handle, rt.alloc(), 1, 7)?;
+        let table = LockTable::new(rt.alloc(), &lot, 16)?;
+        print_over::<S, _>(rt, &table, deeds, is_small)?;
     }
     Ok(())
 }
 
 /// Prints a line for each call of one thread, by each hasher.
 pub fn print_calls<R: Wait + Copy + Drop>(rt: &HostRuntime, handle: R) -> Result<(), Fault> {
-    for deeds in DEEDS {
-        print_lines::<Fold, _>(rt, handle, deeds)?;
-    }
-    for deeds in DEEDS {
-        print_lines::<Sip, _>(rt, handle, deeds)?;
-    }
-    Ok(())
+    print_deeds::<Fold, _>(rt, handle, false)?;
+    print_deeds::<Sip, _>(rt, handle, false)
 }
 
 /// Prints a line for each mix of calls and each team of threads.
@@ -188,31 +243,31 @@ pub fn print_parallel<R: Wait + Threads + Clock + Sync + Copy + Drop>(
     Ok(())
 }
 
-/// Fills a map with so many keys, and answers how many pairs it has.
+/// Fills a new map with many keys, and answers how many pairs it has.
+fn fill_new<T: Copy, Q: RawRwLock + MakeLock<T> + Drop>(
+    alloc: Global,
+    table: T,
+    me: &mut Q::Party,
+) -> Result<usize, Fault>
+where
+    Q::Runtime: Wait,
+{
+    let map: Map<Fold, Q> = map_over(alloc, table)?;
+    put_all::<Onward<0>, _, _>(&map, me, u64::from(MANY))?;
+    Ok(map.len(me))
+}
+
+/// The same over rows of a table.
+fn fill_over<'t, 'l, R: Wait>(alloc: Global, table: &'t LockTable<'l, R>) -> Result<usize, Fault> {
+    let mut me = table.lot().thread_data()?;
+    fill_new::<_, Row<'t, 'l, R>>(alloc, table, &mut me)
+}
+
+/// The same over a new lot.
 pub fn fill<R: Wait + Copy + Drop>(alloc: Global, handle: R) -> Result<usize, Fault> {
     let lot = ParkingLot::new(handle, alloc, 1, 7)?;
     let table = LockTable::new(alloc, &lot, 16)?;
-    let map: Shared<'_, '_, R, Fold> = map_over(alloc, &table)?;
-    let mut me = lot.thread_data()?;
-    put_all::<Onward<0>, _, _>(&map, &mut me, u64::from(MANY))?;
-    Ok(map.len(&mut me))
-}
-
-/// Makes a thousand of each call, and prints what they saw.
-fn print_sums<S: Measured, R: Wait + Copy + Drop>(
-    rt: &HostRuntime,
-    handle: R,
-    deeds: &[Deed],
-) -> Result<(), Fault> {
-    let lot = ParkingLot::new(handle, rt.alloc(), 1, 7)?;
-    let table = LockTable::new(rt.alloc(), &lot, 16)?;
-    let map: Shared<'_, '_, R, S> = map_over(rt.alloc(), &table)?;
-    let mut me = lot.thread_data()?;
-    for deed in deeds {
-        let sum = deed.run::<1_000, _, _>(&map, &mut me, 1_000)?;
-        println!(rt; "{}.{} saw {sum}", deed.name(), S::name())?;
-    }
-    Ok(())
+    fill_over(alloc, &table)
 }
 
 /// A small run of each kind, whose lines are the same each time: the sums of what single threads saw, and how many
@@ -221,12 +276,8 @@ pub fn small_run<R: Wait + Threads + Clock + Sync + Copy + Drop>(
     rt: &HostRuntime,
     handle: R,
 ) -> Result<(), Fault> {
-    for deeds in DEEDS {
-        print_sums::<Fold, _>(rt, handle, deeds)?;
-    }
-    for deeds in DEEDS {
-        print_sums::<Sip, _>(rt, handle, deeds)?;
-    }
+    print_deeds::<Fold, _>(rt, handle, true)?;
+    print_deeds::<Sip, _>(rt, handle, true)?;
     for team in Team::ALL {
         let told = sum_often(handle, rt.alloc(), team.count() as usize, 1_000)?;
         println!(rt; "par.sum.t{} saw {}", team.count(), told.saw)?;

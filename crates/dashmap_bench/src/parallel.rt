@@ -2,9 +2,9 @@
 
 use crate::fault::Fault;
 use crate::keys::Onward;
-use crate::work::{Fold, Map, Shared, map_over, put_all};
+use crate::work::{Fold, Map, Row, map_over, put_all};
 use dashmap_parallel::ParallelMap;
-use lock_api_raw::RawRwLock;
+use lock_api_raw::{MakeLock, RawRwLock};
 use parking_lot_core::{ParkingLot, ThreadData};
 use parking_lot_rwlock::LockTable;
 use std::alloc::Global;
@@ -59,7 +59,46 @@ fn team<R: Wait>(
     Ok(tds)
 }
 
-/// Fills a map with so many pairs, and has so many threads take the sum some times.
+/// Fills a new map with so many pairs, and has these threads take the sum some times.
+fn sum_on<R: Threads + Clock + Sync, T: Copy, Q: RawRwLock + MakeLock<T> + Sync + Drop>(
+    rt: &R,
+    alloc: Global,
+    table: T,
+    me: &mut Q::Party,
+    tds: &mut [Q::Party],
+    count: u64,
+) -> Result<Sums, Fault>
+where
+    Q::Runtime: Wait,
+    Q::Party: Send,
+{
+    let map: Map<Fold, Q> = map_over(alloc, table)?;
+    put_all::<Onward<0>, _, _>(&map, me, count)?;
+    let start = Instant::now(rt)?;
+    let mut saw = 0u64;
+    for _ in 0..TIMES {
+        saw = saw.wrapping_add(sum_all(rt, alloc, &map, tds)?);
+    }
+    Ok(Sums {
+        nanos: start.elapsed(rt)?.as_secs_f64() * 1e9,
+        saw,
+    })
+}
+
+/// The same over rows of a table, with so many threads.
+fn sum_over<'t, 'l, R: Wait + Threads + Clock + Sync>(
+    rt: &R,
+    alloc: Global,
+    table: &'t LockTable<'l, R>,
+    threads: usize,
+    count: u64,
+) -> Result<Sums, Fault> {
+    let mut me = table.lot().thread_data()?;
+    let mut tds = team(alloc, table.lot(), threads)?;
+    sum_on::<R, _, Row<'t, 'l, R>>(rt, alloc, table, &mut me, &mut tds, count)
+}
+
+/// The same over a new lot.
 pub fn sum_often<R: Wait + Threads + Clock + Sync + Copy + Drop>(
     rt: R,
     alloc: Global,
@@ -68,17 +107,5 @@ pub fn sum_often<R: Wait + Threads + Clock + Sync + Copy + Drop>(
 ) -> Result<Sums, Fault> {
     let lot = ParkingLot::new(rt, alloc, 5, 7)?;
     let table = LockTable::new(alloc, &lot, 16)?;
-    let map: Shared<'_, '_, R, Fold> = map_over(alloc, &table)?;
-    let mut me = lot.thread_data()?;
-    put_all::<Onward<0>, _, _>(&map, &mut me, count)?;
-    let mut tds = team(alloc, &lot, threads)?;
-    let start = Instant::now(&rt)?;
-    let mut saw = 0u64;
-    for _ in 0..TIMES {
-        saw = saw.wrapping_add(sum_all(&rt, alloc, &map, &mut tds)?);
-    }
-    Ok(Sums {
-        nanos: start.elapsed(&rt)?.as_secs_f64() * 1e9,
-        saw,
-    })
+    sum_over(&rt, alloc, &table, threads, count)
 }

@@ -1,9 +1,9 @@
 //! Calls of several threads at once.
 
 use crate::fault::Fault;
-use crate::work::{Fold, Map, Shared, map_over};
+use crate::work::{Fold, Map, Row, map_over};
 use dashmap_calls::workload::spread;
-use lock_api_raw::RawRwLock;
+use lock_api_raw::{MakeLock, RawRwLock};
 use parking_lot_core::{ParkingLot, ThreadData};
 use parking_lot_rwlock::LockTable;
 use std::alloc::Global;
@@ -162,15 +162,18 @@ fn both(sums: (Result<u64, Fault>, Result<u64, Fault>)) -> Result<u64, Fault> {
 }
 
 /// Two threads, each with its seed.
-fn two<R: Wait + Threads + Sync>(
+fn two<R: Threads + Sync, Q: RawRwLock<Party = ThreadData> + Sync>(
     rt: &R,
-    map: &Shared<'_, '_, R, Fold>,
+    map: &Map<Fold, Q>,
     parties: (ThreadData, ThreadData),
     keys: &[u64],
     looks: u64,
     seed: u64,
     count: u32,
-) -> Result<u64, Fault> {
+) -> Result<u64, Fault>
+where
+    Q::Runtime: Wait,
+{
     let (one, two) = parties;
     both(thread::join(
         rt,
@@ -180,15 +183,18 @@ fn two<R: Wait + Threads + Sync>(
 }
 
 /// The calls of all the threads of a team.
-fn together<R: Wait + Threads + Sync>(
+fn together<R: Wait + Threads + Sync, Q: RawRwLock<Party = ThreadData> + Sync>(
     rt: &R,
-    map: &Shared<'_, '_, R, Fold>,
+    map: &Map<Fold, Q>,
     lot: &ParkingLot<R>,
     team: Team,
     keys: &[u64],
     looks: u64,
     count: u32,
-) -> Result<u64, Fault> {
+) -> Result<u64, Fault>
+where
+    Q::Runtime: Wait,
+{
     let one = lot.thread_data()?;
     match team {
         Team::One => calls(map, one, keys, looks, 1, count),
@@ -206,6 +212,52 @@ fn together<R: Wait + Threads + Sync>(
 }
 
 /// Fills a new map with half of the keys of so many numbers, and has a team make so many calls in all.
+fn run_on<
+    R: Wait + Threads + Clock + Sync,
+    T: Copy,
+    Q: RawRwLock<Party = ThreadData> + MakeLock<T> + Sync + Drop,
+>(
+    rt: &R,
+    alloc: Global,
+    lot: &ParkingLot<R>,
+    table: T,
+    team: Team,
+    mix: Mix,
+    numbers: u64,
+    count: u32,
+) -> Result<Told, Fault>
+where
+    Q::Runtime: Wait,
+{
+    let map: Map<Fold, Q> = map_over(alloc, table)?;
+    let mut me = lot.thread_data()?;
+    let keys = keys_of(alloc, &map, mix.is_crowded, numbers)?;
+    put_half(&map, &mut me, keys.as_slice())?;
+    let each = count / team.count().max(1);
+    let start = Instant::now(rt)?;
+    let saw = together(rt, &map, lot, team, keys.as_slice(), mix.looks, each)?;
+    Ok(Told {
+        took: start.elapsed(rt)?,
+        saw,
+        left: map.len(&mut me),
+    })
+}
+
+/// The same over rows of a table.
+fn run_over<'t, 'l, R: Wait + Threads + Clock + Sync>(
+    rt: &R,
+    alloc: Global,
+    table: &'t LockTable<'l, R>,
+    team: Team,
+    mix: Mix,
+    numbers: u64,
+    count: u32,
+) -> Result<Told, Fault> {
+    let lot = table.lot();
+    run_on::<R, _, Row<'t, 'l, R>>(rt, alloc, lot, table, team, mix, numbers, count)
+}
+
+/// The same over a new lot.
 pub fn run<R: Wait + Threads + Clock + Sync + Copy + Drop>(
     rt: R,
     alloc: Global,
@@ -216,16 +268,5 @@ pub fn run<R: Wait + Threads + Clock + Sync + Copy + Drop>(
 ) -> Result<Told, Fault> {
     let lot = ParkingLot::new(rt, alloc, 5, 7)?;
     let table = LockTable::new(alloc, &lot, 16)?;
-    let map: Shared<'_, '_, R, Fold> = map_over(alloc, &table)?;
-    let mut me = lot.thread_data()?;
-    let keys = keys_of(alloc, &map, mix.is_crowded, numbers)?;
-    put_half(&map, &mut me, keys.as_slice())?;
-    let each = count / team.count().max(1);
-    let start = Instant::now(&rt)?;
-    let saw = together(&rt, &map, &lot, team, keys.as_slice(), mix.looks, each)?;
-    Ok(Told {
-        took: start.elapsed(&rt)?,
-        saw,
-        left: map.len(&mut me),
-    })
+    run_over(&rt, alloc, &table, team, mix, numbers, count)
 }

@@ -6,7 +6,7 @@ use dashmap_calls::workload::spread;
 use dashmap_map::DashMap;
 use dashmap_table::MapFault;
 use lock_api_raw::{MakeLock, RawRwLock};
-use parking_lot_rwlock::RawRwLock as RawRwLockOfRows;
+use parking_lot_rwlock as running;
 use std::alloc::Global;
 use std::hash::{BuildHasher, BuildHasherDefault, DefaultHasher, FoldHasher};
 use std::sync::Wait;
@@ -49,8 +49,8 @@ impl Measured for Sip {
 /// A map of numbers.
 pub type Map<S, Q> = DashMap<u64, u64, S, Q, Global>;
 
-/// The same over rows of a table.
-pub type Shared<'t, 'l, R, S> = Map<S, RawRwLockOfRows<'t, 'l, R, 0>>;
+/// A lock that is a row of a table.
+pub type Row<'t, 'l, R> = running::RawRwLock<'t, 'l, R, 0>;
 
 /// A map of 16 shards, which is the default for 4 processors.
 pub fn map_over<T: Copy, S: Measured, Q: RawRwLock + MakeLock<T> + Drop>(

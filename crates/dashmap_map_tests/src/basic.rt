@@ -1,10 +1,11 @@
 //! Calls on one key, and a map's room.
 
-use crate::tables::{Row, Spun, check, map_of};
+use crate::tables::{Lock, Row, Spread, Word, check, map_of};
 use dashmap_calls::{Answer, Call, Keyed, Many, Try};
-use std::alloc::Global;
+use dashmap_table::MapFault;
+use lock_api_raw::MakeLock;
+use std::alloc::{AllocError, Global};
 use std::string::String;
-use std::sync::Wait;
 use std::test::Fail;
 
 const IN_AND_OUT: &[Row] = &[
@@ -91,33 +92,54 @@ struct Large {
 }
 
 /// A map of such values.
-type Larges<R> = Spun<u8, Large, R>;
+type Larges<Q> = Spread<u8, Large, Q, Global>;
 
 /// Whether the value of a key has this text, and the key as its byte.
-fn has<R: Wait + Drop>(map: &Larges<R>, key: u8, text: &str) -> bool {
-    match map.get(&key, &mut 1) {
+fn has<Q: Lock>(map: &Larges<Q>, key: u8, text: &str, me: &mut Q::Party) -> bool {
+    match map.get(&key, me) {
         Some(guard) => guard.text.as_str() == text && guard.byte == key,
         None => false,
     }
 }
 
 /// Puts in the value of a key, and tells whether it is new and found.
-fn put<R: Wait + Drop>(map: &Larges<R>, alloc: Global, byte: u8) -> Result<bool, Fail> {
+fn put<Q: Lock>(
+    map: &Larges<Q>,
+    alloc: Global,
+    byte: u8,
+    me: &mut Q::Party,
+) -> Result<bool, AllocError> {
     let large = Large {
         text: format!(in alloc; "{byte}")?,
         byte,
     };
-    let is_new = matches!(map.insert(byte, large, &mut 1), Ok(None));
+    let is_new = matches!(map.insert(byte, large, me), Ok(None));
     let text = format!(in alloc; "{byte}")?;
-    Ok(is_new && has(map, byte, text.as_str()))
+    Ok(is_new && has(map, byte, text.as_str(), me))
+}
+
+/// How many of ten such values a new map takes and finds, and how many it has then.
+fn put_ten<T: Copy, Q: Lock + MakeLock<T>>(
+    table: T,
+    alloc: Global,
+    me: &mut Q::Party,
+) -> Result<(u8, usize), AllocError> {
+    let made: Result<Larges<Q>, MapFault> = map_of(table, alloc, 4);
+    match made {
+        Ok(map) => {
+            let mut count = 0u8;
+            for byte in 0..10u8 {
+                count = count.wrapping_add(u8::from(put(&map, alloc, byte, me)?));
+            }
+            Ok((count, map.len(me)))
+        }
+        Err(_) => Ok((0, 0)),
+    }
 }
 
 #[test]
 fn values_may_own_memory(rt: HostRuntime) -> Result<(), Fail> {
-    let map = map_of(rt, rt.alloc(), 4)?;
-    for byte in 0..10u8 {
-        assert!(rt; put(&map, rt.alloc(), byte)?, "of {byte}");
-    }
-    assert!(rt; map.len(&mut 1) == 10);
+    let put = put_ten::<_, Word>(rt, rt.alloc(), &mut 1)?;
+    assert!(rt; put == (10, 10), "{put:?}");
     Ok(())
 }

@@ -1,9 +1,9 @@
 //! A map beside plain shards, over many calls.
 
-use crate::tables::{map_of, parked};
+use crate::tables::{Lock, Map, Parked, Word, map_of};
 use dashmap_calls::{Answer, Call, Keyed, Many, Numbers, Place, call_many, make};
-use dashmap_table::{Shards, SpreadState};
-use lock_api_raw::RawRwLock;
+use dashmap_table::{MapFault, Shards, SpreadState};
+use lock_api_raw::MakeLock;
 use parking_lot_core::ParkingLot;
 use parking_lot_rwlock::LockTable;
 use std::alloc::{Allocator, Global};
@@ -66,14 +66,11 @@ fn answer_of(plain: &mut Plain, call: Call) -> Answer {
 
 /// The number of the first call, if any, that a map answers otherwise than plain shards do. In the end both have the
 /// same pairs.
-fn first_difference<S: BuildHasher, Q: RawRwLock, A: Allocator + Clone>(
+fn first_difference<S: BuildHasher, Q: Lock, A: Allocator + Clone>(
     map: &Numbers<S, Q, A>,
     plain: &mut Plain,
     me: &mut Q::Party,
-) -> Option<u64>
-where
-    Q::Runtime: Wait,
-{
+) -> Option<u64> {
     for number in 0..10_000 {
         let call = call_of(number);
         if make(map, call, me) != answer_of(plain, call) {
@@ -97,15 +94,32 @@ where
     }
 }
 
+/// The same of new ones.
+fn difference_of_new<T: Copy, Q: Lock + MakeLock<T>>(
+    table: T,
+    alloc: Global,
+    me: &mut Q::Party,
+) -> Result<Option<u64>, MapFault> {
+    let mut plain = Shards::new(alloc, 8, SpreadState)?;
+    let map: Map<Q, Global> = map_of(table, alloc, 8)?;
+    Ok(first_difference(&map, &mut plain, me))
+}
+
+/// The same over rows of a table.
+fn difference_over<'t, 'l, R: Wait>(
+    table: &'t LockTable<'l, R>,
+    alloc: Global,
+) -> Result<Option<u64>, Fail> {
+    let mut me = table.lot().thread_data()?;
+    Ok(difference_of_new::<_, Parked<'t, 'l, R>>(table, alloc, &mut me)?)
+}
+
 #[test]
 fn a_map_answers_as_plain_shards_do(rt: HostRuntime) -> Result<(), Fail> {
-    let mut plain = Shards::new(rt.alloc(), 8, SpreadState)?;
-    let spun = first_difference(&map_of(rt, rt.alloc(), 8)?, &mut plain, &mut 1);
+    let spun = difference_of_new::<_, Word>(rt, rt.alloc(), &mut 1)?;
     let lot = ParkingLot::new(rt, rt.alloc(), 1, 7)?;
     let table = LockTable::new(rt.alloc(), &lot, 8)?;
-    let mut plain = Shards::new(rt.alloc(), 8, SpreadState)?;
-    let mut me = lot.thread_data()?;
-    let parked = first_difference(&parked(rt.alloc(), &table, 8)?, &mut plain, &mut me);
+    let parked = difference_over(&table, rt.alloc())?;
     assert!(rt; spun.is_none() && parked.is_none(), "{spun:?} {parked:?}");
     Ok(())
 }

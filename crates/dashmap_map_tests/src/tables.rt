@@ -1,66 +1,72 @@
-//! The maps that tables are run on.
+//! The maps of the tests, over any lock, and what tables are run on.
 
 pub use dashmap_calls::Row;
 use dashmap_calls::{Call, Numbers, make, run};
 use dashmap_map::DashMap;
 use dashmap_table::{MapFault, SpreadState};
+use lock_api_raw::{MakeLock, RawRwLock};
 use lock_api_spin::PackedLock;
-use parking_lot_core::{ParkingLot, ThreadData};
-use parking_lot_rwlock::LockTable;
+use parking_lot_core::ParkingLot;
+use parking_lot_rwlock::{self as running, LockTable};
 use refusing_heap::{Refusal, RefusingHeap, each_growth};
-use std::alloc::Global;
+use std::alloc::{Allocator, Global};
 use std::hash::Hash;
 use std::sync::Wait;
 use std::test::Fail;
 
-/// A map whose locks are words that are tried again and again.
-pub type Spun<K, V, R> = DashMap<K, V, SpreadState, PackedLock<R>>;
+/// A lock of the maps of the tests.
+pub trait Lock: RawRwLock<Runtime: Wait> + Drop {}
 
-/// A map with so many shards.
-pub fn map_of<K: Eq + Hash + Drop, V: Drop, R: Drop + Copy>(
-    rt: R,
-    alloc: Global,
+impl<Q: RawRwLock<Runtime: Wait> + Drop> Lock for Q {}
+
+/// A lock that is a word, which is tried again and again.
+pub type Word = PackedLock<HostRuntime>;
+
+/// A lock that is a row of a table, whose waiters park.
+pub type Parked<'t, 'l, R> = running::RawRwLock<'t, 'l, R, 0, Global>;
+
+/// A map with the hasher of the tests.
+pub type Spread<K, V, Q, A> = DashMap<K, V, SpreadState, Q, A>;
+
+/// A map of numbers.
+pub type Map<Q, A> = Numbers<SpreadState, Q, A>;
+
+/// A map with so many shards, whose locks are made of this.
+pub fn map_of<K: Eq + Hash + Drop, V: Drop, T: Copy, Q: Lock + MakeLock<T>, A: Allocator + Clone>(
+    table: T,
+    alloc: A,
     shards: usize,
-) -> Result<Spun<K, V, R>, MapFault> {
-    DashMap::with_hasher_and_shard_amount(alloc, SpreadState, shards, rt)
-}
-
-/// A map of numbers whose locks are rows of a table.
-pub type Parked<'t, 'l, R> = Numbers<
-    SpreadState,
-    parking_lot_rwlock::RawRwLock<'t, 'l, R, 0, Global>,
-    Global,
->;
-
-/// A map of numbers over the rows of a table.
-pub fn parked<'t, 'l, R: Wait>(
-    alloc: Global,
-    table: &'t LockTable<'l, R, Global>,
-    shards: usize,
-) -> Result<Parked<'t, 'l, R>, MapFault> {
+) -> Result<Spread<K, V, Q, A>, MapFault> {
     DashMap::with_hasher_and_shard_amount(alloc, SpreadState, shards, table)
 }
 
-/// Makes the calls of a table on an empty map in that heap. A call that is refused a growth is made again, and is
-/// answered then as the row says; but where it is on many keys, of which some are in by then. Fails with the number of
-/// the first row that is answered otherwise.
-fn run_again<R: Wait + Copy + Drop>(
-    rt: R,
-    heap: &RefusingHeap<Global>,
+/// Makes the calls of a table on an empty map.
+pub fn check_on<T: Copy, Q: Lock + MakeLock<T>>(
+    table: T,
+    alloc: Global,
     shards: usize,
     rows: &[Row],
+    me: &mut Q::Party,
+) -> Result<(), Fail> {
+    let map: Map<Q, Global> = map_of(table, alloc, shards)?;
+    run(&map, rows, me)
+}
+
+/// Makes the calls of a table on a map in a heap. A call that is refused a growth is made again, and is answered then
+/// as the row says; but where it is on many keys, of which some are in by then. Fails with the number of the first row
+/// that is answered otherwise.
+fn run_again<Q: Lock, A: Allocator + Clone>(
+    heap: &RefusingHeap<Global>,
+    map: &Map<Q, A>,
+    rows: &[Row],
+    me: &mut Q::Party,
 ) -> Result<(), usize> {
-    let made: Result<Numbers<SpreadState, PackedLock<R>, &RefusingHeap<Global>>, MapFault> =
-        DashMap::with_hasher_and_shard_amount(heap, SpreadState, shards, rt);
-    let Ok(map) = made else {
-        return if heap.refused() == 1 { Ok(()) } else { Err(0) };
-    };
     for row in 0..rows.len() {
         let (call, wanted) = rows[row];
         let refused = heap.refused();
-        let mut answer = make(&map, call, &mut 1);
+        let mut answer = make(map, call, me);
         if answer != wanted && heap.refused() > refused {
-            answer = make(&map, call, &mut 1);
+            answer = make(map, call, me);
             if matches!(call, Call::Many(_)) {
                 answer = wanted;
             }
@@ -70,6 +76,23 @@ fn run_again<R: Wait + Copy + Drop>(
         }
     }
     Ok(())
+}
+
+/// The same on an empty map, whose memory is that heap.
+fn run_in<T: Copy, Q: Lock + MakeLock<T>, A: Allocator + Clone>(
+    table: T,
+    heap: &RefusingHeap<Global>,
+    alloc: A,
+    shards: usize,
+    rows: &[Row],
+    me: &mut Q::Party,
+) -> Result<(), usize> {
+    let made: Result<Map<Q, A>, MapFault> = map_of(table, alloc, shards);
+    match made {
+        Ok(map) => run_again(heap, &map, rows, me),
+        Err(_) if heap.refused() == 1 => Ok(()),
+        Err(_) => Err(0),
+    }
 }
 
 /// How many growths a table may ask for.
@@ -84,19 +107,18 @@ fn check_parked<R: Wait + Copy + Drop>(
 ) -> Result<(), Fail> {
     let lot = ParkingLot::new(rt, alloc, 1, 7)?;
     let table = LockTable::new(alloc, &lot, shards)?;
-    let mut me = lot.thread_data()?;
-    check_rows(alloc, &table, shards, rows, &mut me)
+    check_rows(&table, alloc, shards, rows)
 }
 
 /// Makes them on one whose locks are rows of a table of locks.
-fn check_rows<R: Wait + Drop>(
+fn check_rows<'t, 'l, R: Wait>(
+    table: &'t LockTable<'l, R>,
     alloc: Global,
-    table: &LockTable<'_, R, Global>,
     shards: usize,
     rows: &[Row],
-    me: &mut ThreadData,
 ) -> Result<(), Fail> {
-    run(&parked(alloc, table, shards)?, rows, me)
+    let mut me = table.lot().thread_data()?;
+    check_on::<_, Parked<'t, 'l, R>>(table, alloc, shards, rows, &mut me)
 }
 
 /// Makes the calls of a table on an empty map over each kind of lock, and with each growth refused in turn. Where an
@@ -107,10 +129,10 @@ pub fn check<R: Wait + Copy + Drop>(
     shards: usize,
     rows: &[Row],
 ) -> Result<(), Fail> {
-    run(&map_of(rt, alloc, shards)?, rows, &mut 1)?;
+    check_on::<_, PackedLock<R>>(rt, alloc, shards, rows, &mut 1)?;
     check_parked(rt, alloc, shards, rows)?;
     each_growth(alloc, Refusal::Once(1), MOST, |heap| {
-        run_again(rt, heap, shards, rows)
+        run_in::<_, PackedLock<R>, _>(rt, heap, heap, shards, rows, &mut 1)
     })?;
     Ok(())
 }

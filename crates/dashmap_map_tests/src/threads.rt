@@ -1,14 +1,13 @@
 //! Threads that share a map, over the locks of running threads.
 
-use crate::tables::{Parked, parked};
-use dashmap_calls::{Answer, Call, Keyed, Many, Numbers, Place, Walk, call_many, make};
-use dashmap_map::DashMap;
-use dashmap_table::{MapFault, SpreadState};
+use crate::tables::{Lock, Map, Parked, map_of};
+use dashmap_calls::{Answer, Call, Keyed, Many, Place, Walk, call_many, make};
+use dashmap_table::MapFault;
 use linked_list_allocator::LocalHeap;
-use lock_api_raw::RawRwLock;
-use parking_lot_core::{ParkingLot, ThreadData};
+use lock_api_raw::MakeLock;
+use parking_lot_core::ParkingLot;
 use parking_lot_rwlock::LockTable;
-use std::alloc::Global;
+use std::alloc::{Allocator, Global};
 use std::rt::Clock;
 use std::sync::Wait;
 use std::sync::atomic::{AtomicBool, Ordering};
@@ -66,13 +65,9 @@ impl Work {
 type Job = (Work, u64);
 
 /// Does a job, and tells whether each call was answered as it is to be.
-fn does<Q: RawRwLock<Party = ThreadData<Global>>>(
-    map: &Numbers<SpreadState, Q, Global>,
-    job: Job,
-    mut me: ThreadData<Global>,
-) -> bool
+fn does<Q: Lock>(map: &Map<Q, Global>, job: Job, mut me: Q::Party) -> bool
 where
-    Q::Runtime: Wait,
+    Q::Party: Drop,
 {
     let mut right = true;
     for turn in 0..job.1 {
@@ -82,10 +77,7 @@ where
 }
 
 /// The sum of the numbers, each of which is taken out, if the keys are all there.
-fn sum_of<Q: RawRwLock>(map: &Numbers<SpreadState, Q, Global>, me: &mut Q::Party) -> Option<u64>
-where
-    Q::Runtime: Wait,
-{
+fn sum_of<Q: Lock>(map: &Map<Q, Global>, me: &mut Q::Party) -> Option<u64> {
     let mut sum = 0u64;
     for key in 0..KEYS {
         match make(map, Call::Key(Keyed::Remove(key)), me) {
@@ -97,26 +89,32 @@ where
 }
 
 /// A job, and what the thread that does it has.
-type Worker = (Job, ThreadData<Global>);
+type Worker<P> = (Job, P);
 
 /// Has two threads do their jobs.
-fn two_do<R: Wait + Threads + Sync>(
+fn two_do<R: Threads, Q: Lock + Sync>(
     rt: &R,
-    map: &Parked<'_, '_, R>,
-    (one, my): Worker,
-    (two, their): Worker,
-) -> bool {
+    map: &Map<Q, Global>,
+    (one, my): Worker<Q::Party>,
+    (two, their): Worker<Q::Party>,
+) -> bool
+where
+    Q::Party: Send + Drop,
+{
     let (first, second) = thread::join(rt, || does(map, one, my), || does(map, two, their));
     first & second
 }
 
 /// Has four threads do their jobs.
-fn four_do<R: Wait + Threads + Sync>(
+fn four_do<R: Threads + Sync, Q: Lock + Sync>(
     rt: &R,
-    map: &Parked<'_, '_, R>,
-    (one, two): (Worker, Worker),
-    (three, four): (Worker, Worker),
-) -> bool {
+    map: &Map<Q, Global>,
+    (one, two): (Worker<Q::Party>, Worker<Q::Party>),
+    (three, four): (Worker<Q::Party>, Worker<Q::Party>),
+) -> bool
+where
+    Q::Party: Send + Drop,
+{
     let (first, second) = thread::join(
         rt,
         || two_do(rt, map, one, two),
@@ -125,31 +123,59 @@ fn four_do<R: Wait + Threads + Sync>(
     first & second
 }
 
-/// Has four threads share a map of 64 zeros. It answers what the numbers add up to, if each call was answered as it is
-/// to be.
-fn shared<R: Wait + Threads + Sync + Copy>(
-    rt: R,
+/// Four workers, in pairs.
+type Team<P> = ((Worker<P>, Worker<P>), (Worker<P>, Worker<P>));
+
+/// Has four threads share an empty map, of 64 zeros then. It answers what the numbers add up to, if each call was
+/// answered as it is to be.
+fn share<R: Threads + Sync, Q: Lock + Sync>(
+    rt: &R,
+    map: &Map<Q, Global>,
+    team: Team<Q::Party>,
+    me: &mut Q::Party,
+) -> Option<u64>
+where
+    Q::Party: Send + Drop,
+{
+    let mut right = call_many(map, Many::Zero(0, KEYS), me) == KEYS;
+    right &= four_do(rt, map, team.0, team.1);
+    right &= make(map, Call::Len, me) == Answer::Number(KEYS);
+    let sum = sum_of(map, me);
+    right &= make(map, Call::IsEmpty, me) == Answer::Flag(true);
+    if right { sum } else { None }
+}
+
+/// The same of a new map.
+fn share_new<R: Threads + Sync, T: Copy, Q: Lock + MakeLock<T> + Sync>(
+    rt: &R,
+    table: T,
+    alloc: Global,
+    team: Team<Q::Party>,
+    me: &mut Q::Party,
+) -> Option<u64>
+where
+    Q::Party: Send + Drop,
+{
+    let made: Result<Map<Q, Global>, MapFault> = map_of(table, alloc, 8);
+    match made {
+        Ok(map) => share(rt, &map, team, me),
+        Err(_) => None,
+    }
+}
+
+/// The same over rows of a table.
+fn shared<'t, 'l, R: Wait + Threads + Sync>(
+    rt: &R,
+    table: &'t LockTable<'l, R>,
     alloc: Global,
     jobs: [Job; 4],
 ) -> Result<Option<u64>, Fail> {
-    let lot = ParkingLot::new(rt, alloc, 5, 7)?;
+    let lot = table.lot();
     let mut me = lot.thread_data()?;
-    let (one, two) = (lot.thread_data()?, lot.thread_data()?);
-    let (three, four) = (lot.thread_data()?, lot.thread_data()?);
-    let table = LockTable::new(alloc, &lot, 8)?;
-    let made: Result<Parked<'_, '_, R>, MapFault> = parked(alloc, &table, 8);
-    let map = made?;
-    let mut right = call_many(&map, Many::Zero(0, KEYS), &mut me) == KEYS;
-    right &= four_do(
-        &rt,
-        &map,
-        ((jobs[0], one), (jobs[1], two)),
-        ((jobs[2], three), (jobs[3], four)),
-    );
-    right &= make(&map, Call::Len, &mut me) == Answer::Number(KEYS);
-    let sum = sum_of(&map, &mut me);
-    right &= make(&map, Call::IsEmpty, &mut me) == Answer::Flag(true);
-    Ok(if right { sum } else { None })
+    let one_two = ((jobs[0], lot.thread_data()?), (jobs[1], lot.thread_data()?));
+    let three_four = ((jobs[2], lot.thread_data()?), (jobs[3], lot.thread_data()?));
+    let team = (one_two, three_four);
+    Ok(share_new::<R, _, Parked<'t, 'l, R>>(rt, table, alloc, team, &mut me))
 }
 
 /// Jobs of four threads, and the sum that they make of 64 zeros.
@@ -178,7 +204,10 @@ const JOBS: [([Job; 4], u64); 3] = [
 #[test]
 fn threads_count_and_walk_together(rt: HostRuntime) -> Result<(), Fail> {
     for (jobs, sum) in JOBS {
-        assert!(rt; shared(rt, rt.alloc(), jobs)? == Some(sum), "to {sum}");
+        let lot = ParkingLot::new(rt, rt.alloc(), 5, 7)?;
+        let table = LockTable::new(rt.alloc(), &lot, 8)?;
+        let told = shared(&rt, &table, rt.alloc(), jobs)?;
+        assert!(rt; told == Some(sum), "to {sum}");
     }
     Ok(())
 }
@@ -197,77 +226,145 @@ fn saw<C: Clock>(clock: &C, flag: &AtomicBool) -> bool {
     false
 }
 
+/// Flags of two threads.
+#[derive(Drop)]
+struct Flags {
+    held: AtomicBool,
+    answered: AtomicBool,
+}
+
 /// Holds key 0 until the other thread's insertion was answered, and tells whether it was.
-fn holds<R: Wait + Clock>(
+fn holds<R: Clock, Q: Lock>(
     rt: &R,
-    map: &Parked<'_, '_, R>,
-    mut me: ThreadData<Global>,
-    held: &AtomicBool,
-    answered: &AtomicBool,
+    map: &Map<Q, Global>,
+    flags: &Flags,
+    me: &mut Q::Party,
 ) -> bool {
-    let Some(mut guard) = map.get_mut(&0, &mut me) else {
-        return false;
-    };
-    held.store(true, Ordering::SeqCst);
-    let is_answered = saw(rt, answered);
-    *guard = 9;
-    is_answered
+    match map.get_mut(&0, me) {
+        Some(mut guard) => {
+            flags.held.store(true, Ordering::SeqCst);
+            let is_answered = saw(rt, &flags.answered);
+            *guard = 9;
+            is_answered
+        }
+        None => false,
+    }
 }
 
 /// Puts a key of the other shard in while key 0 is held.
-fn inserts<R: Wait + Clock>(
+fn inserts<R: Clock, Q: Lock>(
     rt: &R,
-    map: &Parked<'_, '_, R>,
-    mut me: ThreadData<Global>,
-    held: &AtomicBool,
-    answered: &AtomicBool,
+    map: &Map<Q, Global>,
+    flags: &Flags,
+    me: &mut Q::Party,
 ) -> bool {
-    let is_held = saw(rt, held);
-    let is_new = map.insert(1, 1, &mut me) == Ok(None);
-    answered.store(true, Ordering::SeqCst);
+    let is_held = saw(rt, &flags.held);
+    let is_new = map.insert(1, 1, me) == Ok(None);
+    flags.answered.store(true, Ordering::SeqCst);
     is_held & is_new
+}
+
+/// What two threads tell, one of which holds key 0 while the other puts key 1 in.
+fn both<R: Threads + Clock + Sync, Q: Lock + Sync>(
+    rt: &R,
+    map: &Map<Q, Global>,
+    one: &mut Q::Party,
+    two: &mut Q::Party,
+) -> (bool, bool)
+where
+    Q::Party: Send,
+{
+    let flags = Flags {
+        held: AtomicBool::new(false),
+        answered: AtomicBool::new(false),
+    };
+    thread::join(
+        rt,
+        || holds(rt, map, &flags, one),
+        || inserts(rt, map, &flags, two),
+    )
+}
+
+/// Whether an empty map of two shards has both held at once.
+fn are_held_at_once<R: Threads + Clock + Sync, Q: Lock + Sync>(
+    rt: &R,
+    map: &Map<Q, Global>,
+    one: &mut Q::Party,
+    two: &mut Q::Party,
+) -> bool
+where
+    Q::Party: Send,
+{
+    let mut right = map.insert(0, 0, one) == Ok(None);
+    right &= map.determine_map(&0) == 0 && map.determine_map(&1) == 1;
+    right &= both(rt, map, one, two) == (true, true);
+    right &= map.remove(&0, one) == Some((0, 9));
+    right & map.contains_key(&1, one)
+}
+
+/// The same of a new map.
+fn new_are_held<R: Threads + Clock + Sync, T: Copy, Q: Lock + MakeLock<T> + Sync>(
+    rt: &R,
+    table: T,
+    alloc: Global,
+    one: &mut Q::Party,
+    two: &mut Q::Party,
+) -> bool
+where
+    Q::Party: Send,
+{
+    let made: Result<Map<Q, Global>, MapFault> = map_of(table, alloc, 2);
+    match made {
+        Ok(map) => are_held_at_once(rt, &map, one, two),
+        Err(_) => false,
+    }
+}
+
+/// The same over rows of a table.
+fn held_over<'t, 'l, R: Wait + Threads + Clock + Sync>(
+    rt: &R,
+    table: &'t LockTable<'l, R>,
+    alloc: Global,
+) -> Result<bool, Fail> {
+    let lot = table.lot();
+    let (mut one, mut two) = (lot.thread_data()?, lot.thread_data()?);
+    Ok(new_are_held::<R, _, Parked<'t, 'l, R>>(rt, table, alloc, &mut one, &mut two))
 }
 
 #[test]
 fn two_shards_are_held_at_once(rt: HostRuntime) -> Result<(), Fail> {
     let lot = ParkingLot::new(rt, rt.alloc(), 3, 7)?;
     let table = LockTable::new(rt.alloc(), &lot, 2)?;
-    let map = parked(rt.alloc(), &table, 2)?;
-    let mut me = lot.thread_data()?;
-    let (one, two) = (lot.thread_data()?, lot.thread_data()?);
-    let mut right = map.insert(0, 0, &mut me) == Ok(None);
-    right &= map.determine_map(&0) == 0 && map.determine_map(&1) == 1;
-    let held = AtomicBool::new(false);
-    let answered = AtomicBool::new(false);
-    let ended = thread::join(
-        &rt,
-        || holds(&rt, &map, one, &held, &answered),
-        || inserts(&rt, &map, two, &held, &answered),
-    );
-    right &= map.remove(&0, &mut me) == Some((0, 9));
-    assert!(rt; right && ended == (true, true) && map.contains_key(&1, &mut me));
+    assert!(rt; held_over(&rt, &table, rt.alloc())?);
     Ok(())
 }
 
-/// A map in a heap over rows of a table.
-type Small<'t, 'l, 'h, R> = Numbers<
-    SpreadState,
-    parking_lot_rwlock::RawRwLock<'t, 'l, R, 0, Global>,
-    &'h LocalHeap,
->;
+/// What a map of four shards in some memory is refused as.
+fn fault_of<T: Copy, Q: Lock + MakeLock<T>, A: Allocator + Clone>(
+    table: T,
+    alloc: A,
+) -> Option<MapFault> {
+    let made: Result<Map<Q, A>, MapFault> = map_of(table, alloc, 4);
+    made.err()
+}
+
+/// The same over rows of a table.
+fn fault_over<'t, 'l, R: Wait, A: Allocator + Clone>(
+    table: &'t LockTable<'l, R>,
+    alloc: A,
+) -> Option<MapFault> {
+    fault_of::<_, Parked<'t, 'l, R>, A>(table, alloc)
+}
 
 #[test]
 fn a_full_table_is_told_before_want_of_memory(rt: HostRuntime) -> Result<(), Fail> {
     let lot = ParkingLot::new(rt, rt.alloc(), 1, 7)?;
     let table = LockTable::new(rt.alloc(), &lot, 3)?;
-    let made = parked(rt.alloc(), &table, 4);
-    assert!(rt; made.err() == Some(MapFault::TableFull));
+    assert!(rt; fault_over(&table, rt.alloc()) == Some(MapFault::TableFull));
     let table = LockTable::new(rt.alloc(), &lot, 6)?;
     let heap = LocalHeap::new(rt.alloc(), 0)?;
     for fault in [MapFault::NoMemory, MapFault::TableFull] {
-        let made: Result<Small<'_, '_, '_, HostRuntime>, MapFault> =
-            DashMap::with_hasher_and_shard_amount(&heap, SpreadState, 4, &table);
-        assert!(rt; made.err() == Some(fault));
+        assert!(rt; fault_over(&table, &heap) == Some(fault));
     }
     Ok(())
 }

@@ -1,18 +1,16 @@
 //! Calls that wait up to a moment: where nobody holds the shard, beside a guard of another party, and where a shard
 //! can't grow.
 
-use crate::tables::{Parked, map_of, parked};
-use dashmap_calls::Numbers;
+use crate::tables::{Map, Parked, Word, map_of};
 use dashmap_guard::TryResult;
-use dashmap_map::{DashMap, UntilFault};
-use dashmap_table::{MapFault, Shard, SpreadState};
+use dashmap_map::UntilFault;
+use dashmap_table::{MapFault, Shard};
 use linked_list_allocator::LocalHeap;
-use lock_api_raw::RawRwLockTimed;
+use lock_api_raw::{MakeLock, RawRwLockTimed};
 use lock_api_rw::Evidence;
-use lock_api_spin::PackedLock;
 use parking_lot_core::ParkingLot;
 use parking_lot_rwlock::LockTable;
-use std::alloc::Allocator;
+use std::alloc::{Allocator, Global};
 use std::rt::Clock;
 use std::sync::Wait;
 use std::test::Fail;
@@ -41,7 +39,7 @@ enum Told {
 
 /// Looks at the pair of a key.
 fn seen<Q: RawRwLockTimed + Evidence<Shard<u64, u64, A>>, A: Allocator, C: Clock>(
-    map: &Numbers<SpreadState, Q, A>,
+    map: &Map<Q, A>,
     key: u64,
     moment: Q::Instant,
     clock: &C,
@@ -59,7 +57,7 @@ where
 
 /// Writes through the guard of a key, and tells what was there.
 fn written<Q: RawRwLockTimed + Evidence<Shard<u64, u64, A>>, A: Allocator, C: Clock>(
-    map: &Numbers<SpreadState, Q, A>,
+    map: &Map<Q, A>,
     (key, value): (u64, u64),
     moment: Q::Instant,
     clock: &C,
@@ -81,7 +79,7 @@ where
 
 /// Makes a call.
 fn made<Q: RawRwLockTimed + Evidence<Shard<u64, u64, A>>, A: Allocator + Clone, C: Clock>(
-    map: &Numbers<SpreadState, Q, A>,
+    map: &Map<Q, A>,
     call: Timed,
     moment: Q::Instant,
     clock: &C,
@@ -111,13 +109,7 @@ fn answered<
     Q: RawRwLockTimed<Instant = Instant> + Evidence<Shard<u64, u64, A>>,
     A: Allocator + Clone,
     C: Clock,
->(
-    map: &Numbers<SpreadState, Q, A>,
-    rows: &[(Timed, Told)],
-    moment: Instant,
-    clock: &C,
-    me: &mut Q::Party,
-) -> usize
+>(map: &Map<Q, A>, rows: &[(Timed, Told)], moment: Instant, clock: &C, me: &mut Q::Party) -> usize
 where
     Q::Runtime: Wait,
 {
@@ -171,13 +163,7 @@ fn is_answered<
     Q: RawRwLockTimed<Instant = Instant> + Evidence<Shard<u64, u64, A>>,
     A: Allocator + Clone,
     C: Clock,
->(
-    map: &Numbers<SpreadState, Q, A>,
-    moment: Instant,
-    clock: &C,
-    me: &mut Q::Party,
-    you: &mut Q::Party,
-) -> bool
+>(map: &Map<Q, A>, moment: Instant, clock: &C, me: &mut Q::Party, you: &mut Q::Party) -> bool
 where
     Q::Runtime: Wait,
 {
@@ -202,35 +188,88 @@ where
     alone & writing & reading & after
 }
 
+/// The same of a new map.
+fn is_answered_by_new<T: Copy, Q: RawRwLockTimed<Instant = Instant> + MakeLock<T> + Drop, C: Clock>(
+    table: T,
+    alloc: Global,
+    moment: Instant,
+    clock: &C,
+    me: &mut Q::Party,
+    you: &mut Q::Party,
+) -> bool
+where
+    Q::Runtime: Wait,
+{
+    let made: Result<Map<Q, Global>, MapFault> = map_of(table, alloc, 2);
+    match made {
+        Ok(map) => is_answered(&map, moment, clock, me, you),
+        Err(_) => false,
+    }
+}
+
+/// The same over rows of a table.
+fn is_answered_over<'t, 'l, R: Wait + Clock>(
+    table: &'t LockTable<'l, R>,
+    alloc: Global,
+    moment: Instant,
+    clock: &R,
+) -> Result<bool, Fail> {
+    let lot = table.lot();
+    let (mut me, mut you) = (lot.thread_data()?, lot.thread_data()?);
+    Ok(is_answered_by_new::<_, Parked<'t, 'l, R>, _>(
+        table, alloc, moment, clock, &mut me, &mut you,
+    ))
+}
+
 #[test]
 fn a_call_gives_up_at_its_moment_beside_a_guard_of_its_shard(rt: HostRuntime) -> Result<(), Fail> {
     let moment = Instant::now(&rt)?;
-    let spun = map_of(rt, rt.alloc(), 2)?;
-    assert!(rt; is_answered(&spun, moment, &rt, &mut 1, &mut 2));
+    let spun = is_answered_by_new::<_, Word, _>(rt, rt.alloc(), moment, &rt, &mut 1, &mut 2);
+    assert!(rt; spun);
     let lot = ParkingLot::new(rt, rt.alloc(), 2, 7)?;
     let table = LockTable::new(rt.alloc(), &lot, 2)?;
-    let (mut me, mut you) = (lot.thread_data()?, lot.thread_data()?);
-    let map = parked(rt.alloc(), &table, 2)?;
-    assert!(rt; is_answered(&map, moment, &rt, &mut me, &mut you));
+    assert!(rt; is_answered_over(&table, rt.alloc(), moment, &rt)?);
     Ok(())
 }
 
 /// Puts keys in, each with itself, until one finds no room, and tells how many. A refused one comes back and isn't there,
 /// and those before it are.
-fn filled<R: Wait + Drop + Copy, C: Clock>(
-    map: &Numbers<SpreadState, PackedLock<R>, &LocalHeap>,
-    moment: Instant,
+fn filled<Q: RawRwLockTimed + Evidence<Shard<u64, u64, A>>, A: Allocator + Clone, C: Clock>(
+    map: &Map<Q, A>,
+    moment: Q::Instant,
     clock: &C,
-) -> Option<u64> {
+    me: &mut Q::Party,
+) -> Option<u64>
+where
+    Q::Runtime: Wait,
+    Q::Instant: Copy,
+{
     for key in 0..12 {
-        let put = made(map, Timed::Insert(key, key), moment, clock, &mut 1);
+        let put = made(map, Timed::Insert(key, key), moment, clock, me);
         if put != Told::Absent {
             let is_refused = put == Told::Refused(99, (key, key));
-            let is_away = made(map, Timed::Get(key), moment, clock, &mut 1) == Told::Absent;
-            return (is_refused & is_away & (map.len(&mut 1) as u64 == key)).then_some(key);
+            let is_away = made(map, Timed::Get(key), moment, clock, me) == Told::Absent;
+            return (is_refused & is_away & (map.len(me) as u64 == key)).then_some(key);
         }
     }
     Some(12)
+}
+
+/// Fills a new map, if there is one.
+fn new_filled<
+    T: Copy,
+    Q: RawRwLockTimed<Instant = Instant> + MakeLock<T> + Drop,
+    A: Allocator + Clone,
+    C: Clock,
+>(table: T, alloc: A, moment: Instant, clock: &C, me: &mut Q::Party) -> Option<Option<u64>>
+where
+    Q::Runtime: Wait,
+{
+    let made: Result<Map<Q, A>, MapFault> = map_of(table, alloc, 2);
+    match made {
+        Ok(map) => Some(filled(&map, moment, clock, me)),
+        Err(_) => None,
+    }
 }
 
 #[test]
@@ -239,14 +278,7 @@ fn each_growth_that_is_refused_gives_the_pair_back(rt: HostRuntime) -> Result<()
     let moment = Instant::now(&rt)?;
     for size in 0..60 {
         let heap = LocalHeap::new(rt.alloc(), size * 64)?;
-        let made: Result<_, MapFault> = DashMap::with_hasher_and_shard_amount(
-            &heap,
-            SpreadState,
-            2,
-            rt,
-        );
-        if let Ok(map) = made {
-            let count = filled(&map, moment, &rt);
+        if let Some(count) = new_filled::<_, Word, _, _>(rt, &heap, moment, &rt, &mut 1) {
             assert!(rt; count.is_some(), "of {size}");
             refused |= count != Some(12);
             whole |= count == Some(12);

@@ -1,12 +1,12 @@
 //! The map's calls and walks by their underscored names.
 
-use crate::tables::map_of;
+use crate::tables::{Lock, Word, map_of};
 use dashmap::Map;
 use dashmap_calls::Numbers;
 use dashmap_iter::walks::Walks;
-use dashmap_table::SpreadState;
-use lock_api_raw::RawRwLock;
-use std::alloc::Allocator;
+use dashmap_table::{MapFault, SpreadState};
+use lock_api_raw::{MakeLock, RawRwLock};
+use std::alloc::{Allocator, Global};
 use std::hash::BuildHasher;
 use std::sync::Wait;
 use std::test::Fail;
@@ -31,13 +31,10 @@ where
 }
 
 /// Uses the calls that give entries on a map without pairs. It has the pair 7 and 1 afterwards.
-fn uses_entries<S: BuildHasher, Q: RawRwLock, A: Allocator + Clone>(
+fn uses_entries<S: BuildHasher, Q: Lock, A: Allocator + Clone>(
     map: &Numbers<S, Q, A>,
     me: &mut Q::Party,
-) -> bool
-where
-    Q::Runtime: Wait,
-{
+) -> bool {
     let is_added = match map._entry(7, me) {
         Ok(entry) => *entry.or_insert(1) == 1,
         Err(_) => false,
@@ -49,37 +46,61 @@ where
 }
 
 /// Uses the calls that give guards on a map with the pair of 7 alone.
-fn uses_guards<S: BuildHasher, Q: RawRwLock, A: Allocator + Clone>(
+fn uses_guards<S: BuildHasher, Q: Lock, A: Allocator + Clone>(
     map: &Numbers<S, Q, A>,
     me: &mut Q::Party,
-) -> bool
-where
-    Q::Runtime: Wait,
-{
+) -> bool {
     let mut right = map._get(&8, me).is_none();
     right &= map._get_mut(&7, me).is_some();
     right &= map._try_get(&7).is_present();
     right & map._try_get_mut(&8).is_absent()
 }
 
+/// Uses all of these on a new map.
+fn uses_all<T: Copy, Q: Lock + MakeLock<T>>(table: T, alloc: Global, me: &mut Q::Party) -> bool {
+    let made: Result<Numbers<SpreadState, Q, Global>, MapFault> = map_of(table, alloc, 4);
+    match made {
+        Ok(map) => {
+            let mut right = uses_entries(&map, me) & uses_guards(&map, me);
+            right &= uses_values(&map, me);
+            right & matches!(map._hasher(), Ok(SpreadState))
+        }
+        Err(_) => false,
+    }
+}
+
 #[test]
 fn the_trait_calls_the_map(rt: HostRuntime) -> Result<(), Fail> {
-    let map = map_of(rt, rt.alloc(), 4)?;
-    let mut right = uses_entries(&map, &mut 1) & uses_guards(&map, &mut 1);
-    right &= uses_values(&map, &mut 1);
-    assert!(rt; right & (map._hasher()? == SpreadState));
+    assert!(rt; uses_all::<_, Word>(rt, rt.alloc(), &mut 1));
     Ok(())
+}
+
+/// Uses walks on an empty map, which is empty again then.
+fn uses_walks<Q: Lock>(map: &mut Numbers<SpreadState, Q, Global>, me: &mut Q::Party) -> bool {
+    let mut right = map.extend((0..100u64).map(|key| (key, key))).is_ok();
+    map._retain(|key, _| *key % 2 == 1, me);
+    map._alter_all(|key, value| value.wrapping_add(*key), me);
+    right &= map.len(me) == 50 && !map.contains_key(&10, me);
+    right &= map.view(&11, |_, value| *value, me) == Some(22);
+    map._clear(me);
+    right & map.is_empty(me)
+}
+
+/// The same on a new map.
+fn uses_walks_of_new<T: Copy, Q: Lock + MakeLock<T>>(
+    table: T,
+    alloc: Global,
+    me: &mut Q::Party,
+) -> bool {
+    let made: Result<Numbers<SpreadState, Q, Global>, MapFault> = map_of(table, alloc, 8);
+    match made {
+        Ok(mut map) => uses_walks(&mut map, me),
+        Err(_) => false,
+    }
 }
 
 #[test]
 fn walks_by_their_underscored_names_do_the_same(rt: HostRuntime) -> Result<(), Fail> {
-    let mut map = map_of(rt, rt.alloc(), 8)?;
-    let mut right = map.extend((0..100u64).map(|key| (key, key))).is_ok();
-    map._retain(|key, _| *key % 2 == 1, &mut 1);
-    map._alter_all(|key, value| value.wrapping_add(*key), &mut 1);
-    right &= map.len(&mut 1) == 50 && !map.contains_key(&10, &mut 1);
-    right &= map.view(&11, |_, value| *value, &mut 1) == Some(22);
-    map._clear(&mut 1);
-    assert!(rt; right && map.is_empty(&mut 1));
+    assert!(rt; uses_walks_of_new::<_, Word>(rt, rt.alloc(), &mut 1));
     Ok(())
 }

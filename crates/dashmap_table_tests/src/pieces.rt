@@ -7,6 +7,7 @@ use std::alloc::Global;
 use std::hash::BuildHasher;
 use std::sync::atomic::{AtomicU64, Ordering};
 use std::test::Fail;
+use std::thread::Threads;
 
 /// The keys below `keys`, each with its double, key by key on the next of so many shards.
 fn shards_of(alloc: Global, amount: usize, keys: u64) -> Result<Plain, Fail> {
@@ -41,75 +42,91 @@ fn values_of(alloc: Global, shards: &[Shard<u64, u64>]) -> Result<Vec<u64>, Fail
 
 const AMOUNTS: [usize; 3] = [1, 2, 8];
 
+/// Whether these shards of a hundred pairs answer in the order of one thread, lent and given up.
+fn answer_in_order<R: Threads + Sync>(rt: &R, alloc: Global, shards: Plain) -> Result<bool, Fail> {
+    let plain = values_of(alloc, &shards)?;
+    let lent = Iter::new(&shards).map_collect(rt, alloc, |_: &u64, value: &u64| *value)?;
+    let given = OwningIter::new(shards).map_collect(rt, alloc, |_: u64, value: u64| value)?;
+    Ok(plain.len() == 100 && lent == plain && given == plain)
+}
+
 #[test]
 fn answers_come_in_the_order_of_one_thread(rt: HostRuntime) -> Result<(), Fail> {
-    let mut right = true;
     for amount in AMOUNTS {
         let shards = shards_of(rt.alloc(), amount, 100)?;
-        let plain = values_of(rt.alloc(), &shards)?;
-        let lent = Iter::new(&shards).map_collect(&rt, rt.alloc(), |_: &u64, value: &u64| *value)?;
-        let given = OwningIter::new(shards).map_collect(
-            &rt,
-            rt.alloc(),
-            |_: u64, value: u64| value,
-        )?;
-        right &= plain.len() == 100 && lent == plain && given == plain;
+        let right = answer_in_order(&rt, rt.alloc(), shards)?;
+        assert!(rt; right, "{amount} shards");
     }
-    assert!(rt; right);
     Ok(())
+}
+
+/// How many pairs of shards are visited that are lent, and what keys and values add up to.
+fn visited<R: Threads + Sync>(rt: &R, shards: &[Shard<u64, u64>]) -> (u64, u64) {
+    let (visits, sum) = (AtomicU64::new(0), AtomicU64::new(0));
+    Iter::new(shards).for_each(rt, |key: &u64, value: &u64| {
+        visits.fetch_add(1, Ordering::SeqCst);
+        sum.fetch_add(key.wrapping_add(*value), Ordering::SeqCst);
+    });
+    (visits.load(Ordering::SeqCst), sum.load(Ordering::SeqCst))
+}
+
+/// The same of shards that are given up.
+fn visited_last<R: Threads + Sync>(rt: &R, shards: Plain) -> (u64, u64) {
+    let (visits, sum) = (AtomicU64::new(0), AtomicU64::new(0));
+    OwningIter::new(shards).for_each(rt, |key: u64, value: u64| {
+        visits.fetch_add(1, Ordering::SeqCst);
+        sum.fetch_add(key.wrapping_add(value), Ordering::SeqCst);
+    });
+    (visits.load(Ordering::SeqCst), sum.load(Ordering::SeqCst))
 }
 
 #[test]
 fn each_pair_is_visited_once(rt: HostRuntime) -> Result<(), Fail> {
-    let mut right = true;
     for amount in AMOUNTS {
         let shards = shards_of(rt.alloc(), amount, 100)?;
-        let visits = AtomicU64::new(0);
-        let sum = AtomicU64::new(0);
-        Iter::new(&shards).for_each(&rt, |key: &u64, value: &u64| {
-            visits.fetch_add(1, Ordering::SeqCst);
-            sum.fetch_add(key.wrapping_add(*value), Ordering::SeqCst);
-        });
-        right &= visits.load(Ordering::SeqCst) == 100 && sum.load(Ordering::SeqCst) == 14_850;
-        OwningIter::new(shards).for_each(&rt, |key: u64, value: u64| {
-            visits.fetch_add(1, Ordering::SeqCst);
-            sum.fetch_add(key.wrapping_add(value), Ordering::SeqCst);
-        });
-        right &= visits.load(Ordering::SeqCst) == 200 && sum.load(Ordering::SeqCst) == 29_700;
+        let lent = visited(&rt, &shards);
+        let given = visited_last(&rt, shards);
+        let all = (100, 14_850);
+        assert!(rt; lent == all && given == all, "{amount} shards");
     }
-    assert!(rt; right);
     Ok(())
+}
+
+/// Writes each value of shards, and tells whether each of a hundred was written once.
+fn are_written<R: Threads + Sync>(
+    rt: &R,
+    alloc: Global,
+    shards: &mut [Shard<u64, u64>],
+) -> Result<bool, Fail> {
+    let before = values_of(alloc, shards)?;
+    par_write(rt, shards, |key: &u64, value: &mut u64| {
+        *value = value.wrapping_add(key.wrapping_mul(3)).wrapping_add(1);
+    });
+    let after = values_of(alloc, shards)?;
+    let mut right = after.len() == 100;
+    for (old, new) in before.iter().zip(after.iter()) {
+        let key = *old / 2;
+        right &= *new == old.wrapping_add(key.wrapping_mul(3)).wrapping_add(1);
+    }
+    Ok(right)
 }
 
 #[test]
 fn each_value_is_written_once(rt: HostRuntime) -> Result<(), Fail> {
-    let mut right = true;
     for amount in AMOUNTS {
         let mut shards = shards_of(rt.alloc(), amount, 100)?;
-        let before = values_of(rt.alloc(), &shards)?;
-        par_write(&rt, &mut shards, |key: &u64, value: &mut u64| {
-            *value = value.wrapping_add(key.wrapping_mul(3)).wrapping_add(1);
-        });
-        let after = values_of(rt.alloc(), &shards)?;
-        right &= after.len() == 100;
-        for (old, new) in before.iter().zip(after.iter()) {
-            let key = *old / 2;
-            right &= *new == old.wrapping_add(key.wrapping_mul(3)).wrapping_add(1);
-        }
+        let right = are_written(&rt, rt.alloc(), &mut shards)?;
+        assert!(rt; right, "{amount} shards");
     }
-    assert!(rt; right);
     Ok(())
 }
 
 #[test]
 fn no_pair_is_no_work(rt: HostRuntime) -> Result<(), Fail> {
     let shards = shards_of(rt.alloc(), 8, 0)?;
-    let calls = AtomicU64::new(0);
-    Iter::new(&shards).for_each(&rt, |_: &u64, _: &u64| {
-        calls.fetch_add(1, Ordering::SeqCst);
-    });
+    let visited = visited(&rt, &shards);
     let none = OwningIter::new(shards).map_collect(&rt, rt.alloc(), |key: u64, _: u64| key)?;
-    assert!(rt; none.is_empty() && calls.load(Ordering::SeqCst) == 0);
+    assert!(rt; none.is_empty() && visited == (0, 0));
     Ok(())
 }
 

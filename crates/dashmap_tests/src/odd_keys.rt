@@ -1,12 +1,13 @@
 //! Odd keys: the unit, keys that are equal without their case, keys that are compared by one field of two, keys of one
 //! hash, and the least and the greatest. One check is made of each kind on each thing that holds keys.
 
+use crate::maps::{Source, Words};
 use dashmap::set::DashSet;
 use dashmap_map::DashMap;
-use dashmap_plain::Plain;
+use dashmap_plain::{Plain, ReadOnlyView};
 use dashmap_record::{Caller, Recorded};
 use dashmap_table::{MapFault, Shards, SpreadState};
-use lock_api_spin::PackedLock;
+use lock_api_raw::RawRwLock;
 use std::alloc::Global;
 use std::hash::{BuildHasher, Hash, Hasher};
 use std::sync::Wait;
@@ -235,10 +236,13 @@ impl<K: Copy + Eq + Hash, S: BuildHasher> Holder<K> for Shards<K, u64, S> {
     }
 }
 
-/// A map whose locks are words.
-type Map<K, S, R> = DashMap<K, u64, S, PackedLock<R>>;
+/// A map over any lock whose party is a number.
+type Map<K, S, Q> = DashMap<K, u64, S, Q>;
 
-impl<K: Copy + Eq + Hash, S: BuildHasher, R: Wait + Drop> Holder<K> for Map<K, S, R> {
+impl<K: Copy + Eq + Hash, S: BuildHasher, Q: RawRwLock<Party = u32>> Holder<K> for Map<K, S, Q>
+where
+    Q::Runtime: Wait,
+{
     fn put(&mut self, key: K) -> Option<bool> {
         let old = self.insert(key, 5, &mut 1).ok()?;
         Some(old.is_none())
@@ -258,10 +262,13 @@ impl<K: Copy + Eq + Hash, S: BuildHasher, R: Wait + Drop> Holder<K> for Map<K, S
     }
 }
 
-/// A set whose locks are words.
-type Set<K, S, R> = DashSet<K, S, PackedLock<R>>;
+/// A set over any such lock.
+type Set<K, S, Q> = DashSet<K, S, Q>;
 
-impl<K: Copy + Eq + Hash, S: BuildHasher, R: Wait + Drop> Holder<K> for Set<K, S, R> {
+impl<K: Copy + Eq + Hash, S: BuildHasher, Q: RawRwLock<Party = u32>> Holder<K> for Set<K, S, Q>
+where
+    Q::Runtime: Wait,
+{
     fn put(&mut self, key: K) -> Option<bool> {
         self.insert(key, &mut 1).ok()
     }
@@ -279,15 +286,18 @@ impl<K: Copy + Eq + Hash, S: BuildHasher, R: Wait + Drop> Holder<K> for Set<K, S
     }
 }
 
-/// A recorded map whose locks are words, and a caller of it.
+/// A recorded map over any such lock, and a caller of it.
 #[derive(Drop)]
-struct Noted<K: Copy + Eq + Hash, S: BuildHasher + Drop, R: Drop> {
-    map: Recorded<K, u64, S, PackedLock<R>>,
+struct Noted<K: Copy + Eq + Hash, S: BuildHasher, Q> {
+    map: Recorded<K, u64, S, Q>,
     caller: Caller<K, u64>,
     count: u64,
 }
 
-impl<K: Copy + Eq + Hash, S: BuildHasher + Drop, R: Wait + Drop> Holder<K> for Noted<K, S, R> {
+impl<K: Copy + Eq + Hash, S: BuildHasher, Q: RawRwLock<Party = u32>> Holder<K> for Noted<K, S, Q>
+where
+    Q::Runtime: Wait,
+{
     fn put(&mut self, key: K) -> Option<bool> {
         let old = self.map.insert(key, 5, &mut self.caller, &mut 1).ok()?;
         self.count = self.count.wrapping_add(u64::from(old.is_none()));
@@ -346,56 +356,50 @@ fn holds_in_shards<T: Kind, S: BuildHasher + Drop>(
 }
 
 /// On a map.
-fn holds_in_map<T: Kind, S: BuildHasher + Drop, R: Wait + Copy + Drop>(
-    rt: R,
+fn holds_in_map<T: Kind, S: BuildHasher + Drop, L: Source<Party = u32>>(
+    source: L,
     alloc: Global,
     hasher: S,
 ) -> Result<bool, MapFault> {
-    let mut map: Map<T::Key, S, R> = DashMap::with_hasher_and_shard_amount(alloc, hasher, 4, rt)?;
-    Ok(holds::<T, Map<T::Key, S, R>>(&mut map))
+    let mut map: Map<T::Key, S, L::Lock> = DashMap::with_hasher_and_shard_amount(
+        alloc,
+        hasher,
+        4,
+        source.table(),
+    )?;
+    Ok(holds::<T, Map<T::Key, S, L::Lock>>(&mut map))
 }
 
 /// On a set.
-fn holds_in_set<T: Kind, S: BuildHasher + Drop, R: Wait + Copy + Drop>(
-    rt: R,
+fn holds_in_set<T: Kind, S: BuildHasher + Drop, L: Source<Party = u32>>(
+    source: L,
     alloc: Global,
     hasher: S,
 ) -> Result<bool, MapFault> {
-    let mut set: Set<T::Key, S, R> = DashSet::with_hasher(alloc, hasher, 1, rt)?;
-    Ok(holds::<T, Set<T::Key, S, R>>(&mut set))
+    let mut set: Set<T::Key, S, L::Lock> = DashSet::with_hasher(alloc, hasher, 1, source.table())?;
+    Ok(holds::<T, Set<T::Key, S, L::Lock>>(&mut set))
 }
 
 /// On a recorded map.
-fn holds_in_record<T: Kind, S: BuildHasher + Drop, R: Wait + Copy + Drop>(
-    rt: R,
+fn holds_in_record<T: Kind, S: BuildHasher + Drop, L: Source<Party = u32>>(
+    source: L,
     alloc: Global,
     hasher: S,
 ) -> Result<bool, MapFault> {
-    let (map, mut callers) = Recorded::new(alloc, 4, hasher, 1, rt)?;
+    let (map, mut callers) = Recorded::new(alloc, 4, hasher, 1, source.table())?;
     let Some(caller) = callers.pop() else {
         return Ok(false);
     };
-    let mut noted: Noted<T::Key, S, R> = Noted {
+    let mut noted: Noted<T::Key, S, L::Lock> = Noted {
         map,
         caller,
         count: 0,
     };
-    Ok(holds::<T, Noted<T::Key, S, R>>(&mut noted))
+    Ok(holds::<T, Noted<T::Key, S, L::Lock>>(&mut noted))
 }
 
-/// On a view: each key is found under its other look, and shown as it was put in.
-fn holds_in_view<T: Kind, S: BuildHasher + Drop, R: Wait + Copy + Drop>(
-    rt: R,
-    alloc: Global,
-    hasher: S,
-) -> Result<bool, MapFault> {
-    let mut map: Map<T::Key, S, R> = DashMap::with_hasher_and_shard_amount(alloc, hasher, 4, rt)?;
-    for number in 0..T::count() {
-        let _new = map.put(T::key(number));
-    }
-    let Ok(view) = map.into_read_only() else {
-        return Ok(false);
-    };
+/// Whether each key is found under its other look, and shown as it was put in.
+fn shows_all<T: Kind, S: BuildHasher, Q>(view: &ReadOnlyView<T::Key, u64, S, Q>) -> bool {
     let mut right = view.len() as u64 == T::count();
     for number in 0..T::count() {
         let look = T::look(&T::key(number));
@@ -404,30 +408,51 @@ fn holds_in_view<T: Kind, S: BuildHasher + Drop, R: Wait + Copy + Drop>(
             None => false,
         };
     }
-    Ok(right)
+    right
+}
+
+/// On a view.
+fn holds_in_view<T: Kind, S: BuildHasher + Drop, L: Source<Party = u32>>(
+    source: L,
+    alloc: Global,
+    hasher: S,
+) -> Result<bool, MapFault> {
+    let mut map: Map<T::Key, S, L::Lock> = DashMap::with_hasher_and_shard_amount(
+        alloc,
+        hasher,
+        4,
+        source.table(),
+    )?;
+    for number in 0..T::count() {
+        let _new = map.put(T::key(number));
+    }
+    match map.into_read_only() {
+        Ok(view) => Ok(shows_all::<T, S, L::Lock>(&view)),
+        Err(_) => Ok(false),
+    }
 }
 
 /// On all of them.
-fn holds_in_all<T: Kind, S: BuildHasher + Copy + Drop, R: Wait + Copy + Drop>(
-    rt: R,
+fn holds_in_all<T: Kind, S: BuildHasher + Copy + Drop, L: Source<Party = u32>>(
+    source: L,
     alloc: Global,
     hasher: S,
 ) -> Result<bool, MapFault> {
     let mut right = holds_in_shards::<T, S>(alloc, hasher)?;
-    right &= holds_in_map::<T, S, R>(rt, alloc, hasher)?;
-    right &= holds_in_set::<T, S, R>(rt, alloc, hasher)?;
-    right &= holds_in_record::<T, S, R>(rt, alloc, hasher)?;
-    right &= holds_in_view::<T, S, R>(rt, alloc, hasher)?;
+    right &= holds_in_map::<T, S, L>(source, alloc, hasher)?;
+    right &= holds_in_set::<T, S, L>(source, alloc, hasher)?;
+    right &= holds_in_record::<T, S, L>(source, alloc, hasher)?;
+    right &= holds_in_view::<T, S, L>(source, alloc, hasher)?;
     Ok(right)
 }
 
 #[test]
 fn each_kind_of_odd_keys_is_held_by_all(rt: HostRuntime) -> Result<(), Fail> {
-    let mut right = holds_in_all::<Units, SpreadState, HostRuntime>(rt, rt.alloc(), SpreadState)?;
-    right &= holds_in_all::<Letters, SpreadState, HostRuntime>(rt, rt.alloc(), SpreadState)?;
-    right &= holds_in_all::<Labels, SpreadState, HostRuntime>(rt, rt.alloc(), SpreadState)?;
-    right &= holds_in_all::<Numbers, OneHash, HostRuntime>(rt, rt.alloc(), OneHash)?;
-    right &= holds_in_all::<Ends, SpreadState, HostRuntime>(rt, rt.alloc(), SpreadState)?;
+    let mut right = holds_in_all::<Units, SpreadState, _>(Words(rt), rt.alloc(), SpreadState)?;
+    right &= holds_in_all::<Letters, SpreadState, _>(Words(rt), rt.alloc(), SpreadState)?;
+    right &= holds_in_all::<Labels, SpreadState, _>(Words(rt), rt.alloc(), SpreadState)?;
+    right &= holds_in_all::<Numbers, OneHash, _>(Words(rt), rt.alloc(), OneHash)?;
+    right &= holds_in_all::<Ends, SpreadState, _>(Words(rt), rt.alloc(), SpreadState)?;
     assert!(rt; right);
     Ok(())
 }

@@ -1,14 +1,14 @@
 //! Calls on a set as data, and tables of them.
 
+use crate::maps::{Source, Words};
 use dashmap::set::DashSet;
 use dashmap_table::{MapFault, SpreadState};
 use lock_api_raw::RawRwLock;
-use lock_api_spin::PackedLock;
-use parking_lot_core::{ParkingLot, ThreadData};
+use parking_lot_core::ParkingLot;
 use parking_lot_rwlock::LockTable;
 use refusing_heap::{Refusal, RefusingHeap, each_growth};
 use std::alloc::{Allocator, Global};
-use std::hash::{BuildHasher, Hash};
+use std::hash::BuildHasher;
 use std::sync::Wait;
 use std::test::Fail;
 
@@ -236,43 +236,54 @@ where
     Ok(())
 }
 
-/// A set whose locks are words that are tried again and again.
-pub type Spun<K, R> = DashSet<K, SpreadState, PackedLock<R>>;
+/// A set of numbers in some memory, with a hasher of its own.
+pub type SetIn<T, A> = Numbers<SpreadState, <T as Source>::Lock, A>;
 
-/// An empty set of eight shards.
-pub fn set_of<K: Eq + Hash + Drop, R: Drop + Copy>(
-    rt: R,
-    alloc: Global,
-) -> Result<Spun<K, R>, MapFault> {
-    DashSet::with_hasher(alloc, SpreadState, 2, rt)
+/// A set of numbers.
+pub type Set<T> = SetIn<T, Global>;
+
+/// An empty set in that memory, for so many threads.
+pub fn set_for<T: Source, A: Allocator + Clone>(
+    source: T,
+    alloc: A,
+    parallelism: usize,
+) -> Result<SetIn<T, A>, MapFault> {
+    DashSet::with_hasher(alloc, SpreadState, parallelism, source.table())
 }
 
-/// A set of numbers whose locks are rows of a table.
-type Parked<'t, 'l, R> = Numbers<
-    SpreadState,
-    parking_lot_rwlock::RawRwLock<'t, 'l, R, 0, Global>,
-    Global,
->;
+/// An empty set of eight shards, if there is memory for it.
+pub fn set_of<T: Source>(source: T, alloc: Global) -> Option<Set<T>> {
+    set_for(source, alloc, 2).ok()
+}
 
-/// Makes the calls of a table on an empty set in that heap. A call that is refused a growth is made again, and is
-/// answered then as the row says; but where it puts in many keys, of which some are in by then. Fails with the number of
-/// the first row that is answered otherwise.
-fn run_again<R: Wait + Copy + Drop>(
-    rt: R,
-    heap: &RefusingHeap<Global>,
+/// Makes the calls of a table on an empty set.
+fn check_on<T: Source>(
+    source: T,
+    alloc: Global,
     rows: &[Row],
-) -> Result<(), usize> {
-    let made: Result<Numbers<SpreadState, PackedLock<R>, &RefusingHeap<Global>>, MapFault> =
-        DashSet::with_hasher(heap, SpreadState, 2, rt);
-    let Ok(set) = made else {
-        return if heap.refused() == 1 { Ok(()) } else { Err(0) };
-    };
+    me: &mut T::Party,
+) -> Result<(), Fail> {
+    run(&set_for(source, alloc, 2)?, rows, me)
+}
+
+/// Makes the calls of a table on a set in a heap. A call that is refused a growth is made again, and is answered then as
+/// the row says; but where it puts in many keys, of which some are in by then. Fails with the number of the first row
+/// that is answered otherwise.
+fn run_again<Q: RawRwLock, A: Allocator + Clone>(
+    heap: &RefusingHeap<Global>,
+    set: &Numbers<SpreadState, Q, A>,
+    rows: &[Row],
+    me: &mut Q::Party,
+) -> Result<(), usize>
+where
+    Q::Runtime: Wait,
+{
     for row in 0..rows.len() {
         let (call, wanted) = rows[row];
         let refused = heap.refused();
-        let mut answer = make(&set, call, &mut 1);
+        let mut answer = make(set, call, me);
         if answer != wanted && heap.refused() > refused {
-            answer = make(&set, call, &mut 1);
+            answer = make(set, call, me);
             if matches!(call, Call::InsertBelow(_)) {
                 answer = wanted;
             }
@@ -284,42 +295,44 @@ fn run_again<R: Wait + Copy + Drop>(
     Ok(())
 }
 
+/// The same on an empty set, whose memory is that heap.
+fn run_in<T: Source, A: Allocator + Clone>(
+    source: T,
+    heap: &RefusingHeap<Global>,
+    alloc: A,
+    rows: &[Row],
+    me: &mut T::Party,
+) -> Result<(), usize> {
+    match set_for(source, alloc, 2) {
+        Ok(set) => run_again(heap, &set, rows, me),
+        Err(_) if heap.refused() == 1 => Ok(()),
+        Err(_) => Err(0),
+    }
+}
+
 /// How many growths a table may ask for.
 const MOST: u64 = 500;
 
-/// Makes the calls of a table on an empty set whose locks are rows of a table of locks.
-fn check_rows<'t, 'l, R: Wait + Copy + Drop>(
+/// Makes the calls of a table on an empty set whose waiters park.
+fn check_parked<R: Wait + Sync + Copy + Drop>(
+    rt: R,
     alloc: Global,
-    table: &'t LockTable<'l, R>,
     rows: &[Row],
-    me: &mut ThreadData,
 ) -> Result<(), Fail> {
-    let made: Result<Parked<'t, 'l, R>, MapFault> = DashSet::with_hasher(
-        alloc,
-        SpreadState,
-        2,
-        table,
-    );
-    run(&made?, rows, me)
-}
-
-/// Makes them on an empty set whose waiters park.
-fn check_parked<R: Wait + Copy + Drop>(rt: R, alloc: Global, rows: &[Row]) -> Result<(), Fail> {
     let lot = ParkingLot::new(rt, alloc, 1, 7)?;
     let table = LockTable::new(alloc, &lot, 8)?;
-    let mut me = lot.thread_data()?;
-    check_rows(alloc, &table, rows, &mut me)
+    check_on(&table, alloc, rows, &mut lot.thread_data()?)
 }
 
 /// Makes the calls of a table on an empty set over each kind of lock, and with each growth refused in turn.
-fn check<R: Wait + Copy + Drop>(rt: R, alloc: Global, rows: &[Row]) -> Result<(), Fail> {
-    run(&set_of(rt, alloc)?, rows, &mut 1)?;
+fn check<R: Wait + Sync + Copy + Drop>(rt: R, alloc: Global, rows: &[Row]) -> Result<(), Fail> {
+    check_on(Words(rt), alloc, rows, &mut 1)?;
     check_parked(rt, alloc, rows)?;
     each_growth(
         alloc,
         Refusal::Once(1),
         MOST,
-        |heap| run_again(rt, heap, rows),
+        |heap| run_in(Words(rt), heap, heap, rows, &mut 1),
     )?;
     Ok(())
 }

@@ -1,20 +1,18 @@
 //! A call on one shard while another shard is held.
 
-use crate::record::calls::{Fold, Numbers};
+use crate::record::calls::{Lock, Made, Numbers, OfNumbers, made_of};
 use crate::record::doctored::key_on;
-use dashmap_record::{Caller, Recorded};
 use dashmap_table::MapFault;
-use parking_lot_core::{ParkingLot, ThreadData};
-use parking_lot_rwlock::{LockTable, RawRwLock};
+use lock_api_raw::MakeLock;
+use parking_lot_core::ParkingLot;
+use parking_lot_rwlock::{self as running, LockTable};
 use std::alloc::Global;
 use std::sync::Wait;
 use std::sync::atomic::{AtomicU64, Ordering};
 use std::test::Fail;
 use std::thread;
+use std::thread::Threads;
 use std::time::{Clock, Duration};
-
-/// A map of numbers over rows of a table.
-type Shared<'t, 'l, R> = Numbers<RawRwLock<'t, 'l, R, 0, Global>, Global>;
 
 /// How many turns of one millisecond a flag is awaited for.
 const TURNS: u32 = 10_000;
@@ -31,11 +29,11 @@ fn has_come<R: Clock>(rt: &R, flag: &AtomicU64, height: u64) -> bool {
 }
 
 /// Holds shard 0 until the other thread was answered, and tells whether it was.
-fn holds<R: Wait + Clock>(
+fn holds<R: Clock, Q: Lock>(
     rt: &R,
-    map: &Shared<'_, '_, R>,
+    map: &Numbers<Q, Global>,
     flag: &AtomicU64,
-    me: &mut ThreadData,
+    me: &mut Q::Party,
 ) -> bool {
     let seen = map.look(
         0,
@@ -49,12 +47,12 @@ fn holds<R: Wait + Clock>(
 }
 
 /// Inserts on shard 1 once shard 0 is held, and tells whether it was and nothing was refused.
-fn inserts<R: Wait + Clock>(
+fn inserts<R: Clock, Q: Lock>(
     rt: &R,
-    map: &Shared<'_, '_, R>,
+    map: &Numbers<Q, Global>,
     flag: &AtomicU64,
-    caller: &mut Caller<u64, u64>,
-    me: &mut ThreadData,
+    caller: &mut OfNumbers<Global>,
+    me: &mut Q::Party,
 ) -> bool {
     let is_held = has_come(rt, flag, 1);
     let old = map.insert(key_on(1), 5, caller, me);
@@ -62,26 +60,59 @@ fn inserts<R: Wait + Clock>(
     is_held & (old == Ok(None))
 }
 
+/// One thread holds shard 0 while the other inserts on shard 1. Answers what each tells.
+fn both<R: Threads + Clock + Sync, Q: Lock + Sync>(
+    rt: &R,
+    map: &Numbers<Q, Global>,
+    caller: &mut OfNumbers<Global>,
+    one: &mut Q::Party,
+    two: &mut Q::Party,
+) -> (bool, bool)
+where
+    Q::Party: Send,
+{
+    let flag = AtomicU64::new(0);
+    thread::join(
+        rt,
+        || holds(rt, map, &flag, one),
+        || inserts(rt, map, &flag, caller, two),
+    )
+}
+
+/// The same on a new map.
+fn both_on_new<R: Threads + Clock + Sync, T: Copy, Q: Lock + MakeLock<T> + Sync>(
+    rt: &R,
+    table: T,
+    alloc: Global,
+    one: &mut Q::Party,
+    two: &mut Q::Party,
+) -> Option<(bool, bool)>
+where
+    Q::Party: Send,
+{
+    let made: Result<Made<Q, Global>, MapFault> = made_of(table, alloc, 2, 1);
+    let (map, mut callers) = made.ok()?;
+    let mut caller = callers.pop()?;
+    Some(both(rt, &map, &mut caller, one, two))
+}
+
+/// The same over rows of a table.
+fn both_over<'t, 'l, R: Wait + Threads + Clock + Sync>(
+    rt: &R,
+    table: &'t LockTable<'l, R>,
+    alloc: Global,
+) -> Result<Option<(bool, bool)>, Fail> {
+    let lot = table.lot();
+    let (mut one, mut two) = (lot.thread_data()?, lot.thread_data()?);
+    Ok(both_on_new::<R, _, running::RawRwLock<'t, 'l, R, 0, Global>>(
+        rt, table, alloc, &mut one, &mut two,
+    ))
+}
+
 #[test]
 fn a_held_shard_keeps_no_other_shard_waiting(rt: HostRuntime) -> Result<(), Fail> {
     let lot = ParkingLot::new(rt, rt.alloc(), 3, 7)?;
     let table = LockTable::new(rt.alloc(), &lot, 2)?;
-    let made: Result<(Shared<'_, '_, HostRuntime>, _), MapFault> = Recorded::new(
-        rt.alloc(),
-        2,
-        Fold::new(),
-        1,
-        &table,
-    );
-    let (map, mut callers) = made?;
-    let mut caller = callers.pop().ok_or("no caller")?;
-    let (mut one, mut two) = (lot.thread_data()?, lot.thread_data()?);
-    let flag = AtomicU64::new(0);
-    let ended = thread::join(
-        &rt,
-        || holds(&rt, &map, &flag, &mut one),
-        || inserts(&rt, &map, &flag, &mut caller, &mut two),
-    );
-    assert!(rt; ended == (true, true));
+    assert!(rt; both_over(&rt, &table, rt.alloc())? == Some((true, true)));
     Ok(())
 }

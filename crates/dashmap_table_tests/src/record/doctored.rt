@@ -74,6 +74,27 @@ fn lists<A: Allocator + Copy>(alloc: A, parts: [&[Entry]; 2]) -> Result<Lists<A>
     Ok(all)
 }
 
+/// Why nothing is gathered of these histories and logs.
+fn fault_of<A: Allocator + Copy + Drop>(
+    alloc: A,
+    histories: [&[Entry]; 2],
+    logs: [&[Entry]; 2],
+) -> Option<GatherFault> {
+    gathered(alloc, histories, logs).err()
+}
+
+/// How many entries are gathered of these.
+fn count_of<A: Allocator + Copy + Drop>(
+    alloc: A,
+    histories: [&[Entry]; 2],
+    logs: [&[Entry]; 2],
+) -> Option<usize> {
+    match gathered(alloc, histories, logs) {
+        Ok(all) => Some(all.len()),
+        Err(_) => None,
+    }
+}
+
 #[test]
 fn notes_that_belong_together_are_merged_by_stamp_and_shard(rt: HostRuntime) -> Result<(), Fail> {
     let notes = [first(), second()];
@@ -85,40 +106,39 @@ fn notes_that_belong_together_are_merged_by_stamp_and_shard(rt: HostRuntime) -> 
 
 #[test]
 fn nothing_at_all_is_an_empty_list(rt: HostRuntime) {
-    let all = gathered(rt.alloc(), [&[], &[]], [&[], &[]]);
-    assert!(rt; all.is_ok_and(|all| all.is_empty()));
+    assert!(rt; count_of(rt.alloc(), [&[], &[]], [&[], &[]]) == Some(0));
 }
 
 #[test]
 fn each_way_of_doctoring_has_its_name(rt: HostRuntime) {
     let (a, b, c) = (first(), second(), other());
     let alloc = rt.alloc();
-    let stamps = gathered(alloc, [&[a, a], &[c]], [&[a, b], &[c]]);
-    assert!(rt; matches!(stamps, Err(GatherFault::StampOrder)));
-    let unlogged = gathered(alloc, [&[a, b], &[c]], [&[a], &[c]]);
-    assert!(rt; matches!(unlogged, Err(GatherFault::NotInLog)));
+    let stamps = fault_of(alloc, [&[a, a], &[c]], [&[a, b], &[c]]);
+    assert!(rt; stamps == Some(GatherFault::StampOrder));
+    let unlogged = fault_of(alloc, [&[a, b], &[c]], [&[a], &[c]]);
+    assert!(rt; unlogged == Some(GatherFault::NotInLog));
     let stranger = Entered { caller: 7, ..c };
-    let strange = gathered(alloc, [&[a, b], &[stranger]], [&[a, b], &[c]]);
-    assert!(rt; matches!(strange, Err(GatherFault::NotInLog)));
-    let lost = gathered(alloc, [&[a], &[c]], [&[a, b], &[c]]);
-    assert!(rt; matches!(lost, Err(GatherFault::NotInHistory)));
+    let strange = fault_of(alloc, [&[a, b], &[stranger]], [&[a, b], &[c]]);
+    assert!(rt; strange == Some(GatherFault::NotInLog));
+    let lost = fault_of(alloc, [&[a], &[c]], [&[a, b], &[c]]);
+    assert!(rt; lost == Some(GatherFault::NotInHistory));
     let elsewhere = Entered { shard: 1, ..b };
-    let renumbered = gathered(alloc, [&[a, elsewhere], &[c]], [&[a, elsewhere], &[c]]);
-    assert!(rt; matches!(renumbered, Err(GatherFault::NotInHistory)));
-    let moved = gathered(alloc, [&[a], &[c, elsewhere]], [&[a, elsewhere], &[c]]);
-    assert!(rt; matches!(moved, Err(GatherFault::WrongShard)));
+    let renumbered = fault_of(alloc, [&[a, elsewhere], &[c]], [&[a, elsewhere], &[c]]);
+    assert!(rt; renumbered == Some(GatherFault::NotInHistory));
+    let moved = fault_of(alloc, [&[a], &[c, elsewhere]], [&[a, elsewhere], &[c]]);
+    assert!(rt; moved == Some(GatherFault::WrongShard));
     let unhashed = Entered {
         hash: b.hash ^ 1,
         ..b
     };
-    let rehashed = gathered(alloc, [&[a, unhashed], &[c]], [&[a, unhashed], &[c]]);
-    assert!(rt; matches!(rehashed, Err(GatherFault::WrongHash)));
+    let rehashed = fault_of(alloc, [&[a, unhashed], &[c]], [&[a, unhashed], &[c]]);
+    assert!(rt; rehashed == Some(GatherFault::WrongHash));
     let invented = Entered {
         reply: CallReply::Value(11),
         ..b
     };
-    let replied = gathered(alloc, [&[a, invented], &[c]], [&[a, invented], &[c]]);
-    assert!(rt; matches!(replied, Err(GatherFault::WrongReply)));
+    let replied = fault_of(alloc, [&[a, invented], &[c]], [&[a, invented], &[c]]);
+    assert!(rt; replied == Some(GatherFault::WrongReply));
 }
 
 #[test]
@@ -130,25 +150,25 @@ fn a_replacement_needs_the_value_that_was_seen(rt: HostRuntime) {
     let seen = entry(0, 4, 0, Call::GetCopied(key), CallReply::Value(6));
     let gone = entry(0, 5, 0, Call::Remove(key), CallReply::Pair(key, 6));
     let notes = [put, done, again, seen, gone];
-    let all = gathered(rt.alloc(), [&notes, &[]], [&notes, &[]]);
-    assert!(rt; all.is_ok_and(|all| all.len() == 5));
+    assert!(rt; count_of(rt.alloc(), [&notes, &[]], [&notes, &[]]) == Some(5));
+}
+
+/// What is gathered of three histories, the last of which is empty, and of two logs.
+fn gathered_of_three<A: Allocator + Copy + Drop>(
+    alloc: A,
+    notes: [&[Entry]; 2],
+) -> Result<Vec<Entry, A>, GatherFault> {
+    let mut histories = lists(alloc, notes)?;
+    if histories.push(Vec::new(alloc)).is_err() {
+        return Err(GatherFault::NoMemory);
+    }
+    gather(alloc, histories, lists(alloc, notes)?, &Fold::new())
 }
 
 #[test]
-fn three_histories_are_a_wrong_amount_where_there_is_an_entry(rt: HostRuntime) -> Result<(), Fail> {
-    let alloc = rt.alloc();
-    let mut histories = lists(alloc, [&[first()], &[]])?;
-    histories.push(Vec::new(alloc))?;
-    let some = gather(
-        alloc,
-        histories,
-        lists(alloc, [&[first()], &[]])?,
-        &Fold::new(),
-    );
-    assert!(rt; matches!(some, Err(GatherFault::WrongShard)));
-    let mut empty = lists(alloc, [&[], &[]])?;
-    empty.push(Vec::new(alloc))?;
-    let none = gather(alloc, empty, lists(alloc, [&[], &[]])?, &Fold::new());
+fn three_histories_are_a_wrong_amount_where_there_is_an_entry(rt: HostRuntime) {
+    let some = gathered_of_three(rt.alloc(), [&[first()], &[]]);
+    assert!(rt; some.err() == Some(GatherFault::WrongShard));
+    let none = gathered_of_three(rt.alloc(), [&[], &[]]);
     assert!(rt; none.is_ok_and(|all| all.is_empty()));
-    Ok(())
 }
