@@ -12,6 +12,10 @@ use std::test::Fail;
 /// A lock of one word.
 type Word = PackedLock<HostRuntime>;
 
+type Map<Q> = Numbers<Q, Global>;
+
+type One = OfNumbers<Global>;
+
 /// What a map of so many shards is refused as.
 fn refusal_of<T: Copy, Q: Lock + MakeLock<T>>(
     table: T,
@@ -45,11 +49,7 @@ const CALLS: &[Row] = &[
 ];
 
 /// How many of the calls reply as their rows say, up to the first that doesn't.
-fn replied<Q: Lock>(
-    map: &Numbers<Q, Global>,
-    caller: &mut OfNumbers<Global>,
-    me: &mut Q::Party,
-) -> usize {
+fn replied<Q: Lock>(map: &Map<Q>, caller: &mut One, me: &mut Q::Party) -> usize {
     for row in 0..CALLS.len() {
         let (call, reply) = CALLS[row];
         if make(map, call, caller, me) != Ok(reply) {
@@ -78,7 +78,7 @@ fn written(entries: &[Entered<u64, u64>]) -> usize {
 type Lists = Vec<Vec<Entered<u64, u64>>>;
 
 /// The log of one caller.
-fn one_log(alloc: Global, caller: OfNumbers<Global>) -> Result<Lists, AllocError> {
+fn one_log(alloc: Global, caller: One) -> Result<Lists, AllocError> {
     let mut logs = Vec::new(alloc);
     logs.push(caller.log())?;
     Ok(logs)
@@ -87,8 +87,8 @@ fn one_log(alloc: Global, caller: OfNumbers<Global>) -> Result<Lists, AllocError
 /// Gathers what a map and its one caller have noted.
 fn gathered<Q: Lock>(
     alloc: Global,
-    map: Numbers<Q, Global>,
-    caller: OfNumbers<Global>,
+    map: Map<Q>,
+    caller: One,
 ) -> Result<Vec<Entered<u64, u64>>, GatherFault> {
     let logs = one_log(alloc, caller)?;
     gather(alloc, map.histories(), logs, &Fold::new())
@@ -181,22 +181,12 @@ fn a_call_that_was_refused_a_growth_is_made_again(rt: HostRuntime) -> Result<(),
 }
 
 /// Whether a look finds no pair, and has this stamp.
-fn looks<Q: Lock>(
-    map: &Numbers<Q, Global>,
-    caller: &mut OfNumbers<Global>,
-    me: &mut Q::Party,
-    stamp: u64,
-) -> bool {
+fn looks<Q: Lock>(map: &Map<Q>, caller: &mut One, me: &mut Q::Party, stamp: u64) -> bool {
     make(map, Call::GetCopied(1), caller, me) == Ok(CallReply::None) && caller.last() == stamp
 }
 
 /// Whether stamps rise where two callers take turns at one shard.
-fn rise<Q: Lock>(
-    map: &Numbers<Q, Global>,
-    first: &mut OfNumbers<Global>,
-    second: &mut OfNumbers<Global>,
-    me: &mut Q::Party,
-) -> bool {
+fn rise<Q: Lock>(map: &Map<Q>, first: &mut One, second: &mut One, me: &mut Q::Party) -> bool {
     let mut right = first.number() == 0 && second.number() == 1;
     for turn in 1..4 {
         right &= looks(map, first, me, turn);
@@ -232,11 +222,7 @@ const SPENT: &[Call<u64, u64>] = &[
 ];
 
 /// How many of those calls a caller is refused since stamps are spent, up to the first that it isn't.
-fn refused<Q: Lock>(
-    map: &Numbers<Q, Global>,
-    caller: &mut OfNumbers<Global>,
-    me: &mut Q::Party,
-) -> usize {
+fn refused<Q: Lock>(map: &Map<Q>, caller: &mut One, me: &mut Q::Party) -> usize {
     for row in 0..SPENT.len() {
         if make(map, SPENT[row], caller, me) != Err(RecordFault::StampsSpent) {
             return row;

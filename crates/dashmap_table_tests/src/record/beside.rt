@@ -61,16 +61,13 @@ fn inserts<R: Clock, Q: Lock>(
 }
 
 /// One thread holds shard 0 while the other inserts on shard 1. Answers what each tells.
-fn both<R: Threads + Clock + Sync, Q: Lock + Sync>(
+fn both<R: Threads + Clock + Sync, Q: Lock>(
     rt: &R,
     map: &Numbers<Q, Global>,
     caller: &mut OfNumbers<Global>,
     one: &mut Q::Party,
     two: &mut Q::Party,
-) -> (bool, bool)
-where
-    Q::Party: Send,
-{
+) -> (bool, bool) {
     let flag = AtomicU64::new(0);
     thread::join(
         rt,
@@ -80,16 +77,13 @@ where
 }
 
 /// The same on a new map.
-fn both_on_new<R: Threads + Clock + Sync, T: Copy, Q: Lock + MakeLock<T> + Sync>(
+fn both_on_new<R: Threads + Clock + Sync, T: Copy, Q: Lock + MakeLock<T>>(
     rt: &R,
     table: T,
     alloc: Global,
     one: &mut Q::Party,
     two: &mut Q::Party,
-) -> Option<(bool, bool)>
-where
-    Q::Party: Send,
-{
+) -> Option<(bool, bool)> {
     let made: Result<Made<Q, Global>, MapFault> = made_of(table, alloc, 2, 1);
     let (map, mut callers) = made.ok()?;
     let mut caller = callers.pop()?;

@@ -8,9 +8,9 @@ use std::hash::{BuildHasherDefault, FoldHasher};
 use std::sync::Wait;
 
 /// A lock of the maps of the tests.
-pub trait Lock: RawRwLock<Runtime: Wait> + Drop {}
+pub trait Lock: RawRwLock<Runtime: Wait, Party: Send + Drop> + Sync + Drop {}
 
-impl<Q: RawRwLock<Runtime: Wait> + Drop> Lock for Q {}
+impl<Q: RawRwLock<Runtime: Wait, Party: Send + Drop> + Sync + Drop> Lock for Q {}
 
 /// The hasher of the tests.
 pub type Fold = BuildHasherDefault<FoldHasher>;

@@ -81,15 +81,12 @@ fn parts<P: Drop>(
 }
 
 /// Lets each caller make so many calls, in a thread of its own.
-fn call_all<R: Threads + Sync, Q: Lock + Sync>(
+fn call_all<R: Threads + Sync, Q: Lock>(
     rt: &R,
     map: &Numbers<Q, Global>,
     parts: &mut [Part<Q::Party>],
     count: u64,
-)
-where
-    Q::Party: Send,
-{
+) {
     thread::for_each_mut(rt, parts, CALLERS, &|_, part| calls(map, part, count));
 }
 
@@ -109,16 +106,13 @@ fn logs<P: Drop>(alloc: Global, parts: Vec<Part<P>, Global>) -> Result<Lists, Fa
 }
 
 /// The histories and logs of callers that each made so many calls, each in one of these threads.
-fn recorded_by<R: Threads + Sync, T: Copy, Q: Lock + MakeLock<T> + Sync>(
+fn recorded_by<R: Threads + Sync, T: Copy, Q: Lock + MakeLock<T>>(
     rt: &R,
     table: T,
     alloc: Global,
     threads: Vec<Q::Party, Global>,
     count: u64,
-) -> Result<(Lists, Lists), Fail>
-where
-    Q::Party: Send + Drop,
-{
+) -> Result<(Lists, Lists), Fail> {
     let made: Result<Made<Q, Global>, MapFault> = made_of(table, alloc, 8, CALLERS);
     let (map, callers) = made?;
     let mut parts = parts(alloc, callers, threads)?;
