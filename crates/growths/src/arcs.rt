@@ -1,6 +1,7 @@
 //! Guards that own an Arc of their lock: each such call clones the Arc first, and takes no lock where that is
 //! refused.
 
+use crate::memory::Memory;
 use lock_api::{ArcGuard, Mutex, ReentrantMutex, RwLock};
 use lock_api_guards::Hold;
 use lock_api_raw::{GetThreadId, RawMutexTimed, RawRwLockTimed, RawRwLockUpgradeTimed};
@@ -30,11 +31,11 @@ pub enum OfArc {
     Upgrades(Ask),
 }
 
-type Mutual<'h, Q> = Arc<Mutex<Q, u64>, &'h Heap>;
+type Mutual<Q, A> = Arc<Mutex<Q, u64>, A>;
 
-type Nested<'h, Q, G> = Arc<ReentrantMutex<Q, G, u64>, &'h Heap>;
+type Nested<Q, G, A> = Arc<ReentrantMutex<Q, G, u64>, A>;
 
-type Shared<'h, Q> = Arc<RwLock<Q, u64>, &'h Heap>;
+type Shared<Q, A> = Arc<RwLock<Q, u64>, A>;
 
 fn short() -> Duration {
     Duration::from_millis(1)
@@ -63,9 +64,9 @@ where
     }
 }
 
-fn lock<Q: RawMutexTimed<Duration = Duration, Instant = Instant> + Drop, C: Clock>(
+fn lock<Q: RawMutexTimed<Duration = Duration, Instant = Instant> + Drop, C: Clock, A: Memory>(
     clock: &C,
-    lock: &Mutual<'_, Q>,
+    lock: &Mutual<Q, A>,
     ask: Ask,
     now: Instant,
     party: &mut Q::Party,
@@ -85,7 +86,8 @@ fn nest<
     Q: RawMutexTimed<Duration = Duration, Instant = Instant> + Drop,
     G: GetThreadId<Party = Q::Party> + Drop,
     C: Clock,
->(clock: &C, lock: &Nested<'_, Q, G>, ask: Ask, now: Instant, party: &mut Q::Party) -> Said
+    A: Memory,
+>(clock: &C, lock: &Nested<Q, G, A>, ask: Ask, now: Instant, party: &mut Q::Party) -> Said
 where
     Q::Runtime: Wait,
 {
@@ -97,9 +99,9 @@ where
     }
 }
 
-fn read<Q: RawRwLockTimed<Duration = Duration, Instant = Instant> + Drop, C: Clock>(
+fn read<Q: RawRwLockTimed<Duration = Duration, Instant = Instant> + Drop, C: Clock, A: Memory>(
     clock: &C,
-    lock: &Shared<'_, Q>,
+    lock: &Shared<Q, A>,
     ask: Ask,
     now: Instant,
     party: &mut Q::Party,
@@ -115,9 +117,9 @@ where
     }
 }
 
-fn write<Q: RawRwLockTimed<Duration = Duration, Instant = Instant> + Drop, C: Clock>(
+fn write<Q: RawRwLockTimed<Duration = Duration, Instant = Instant> + Drop, C: Clock, A: Memory>(
     clock: &C,
-    lock: &Shared<'_, Q>,
+    lock: &Shared<Q, A>,
     ask: Ask,
     now: Instant,
     party: &mut Q::Party,
@@ -133,13 +135,11 @@ where
     }
 }
 
-fn upgrade<Q: RawRwLockUpgradeTimed<Duration = Duration, Instant = Instant> + Drop, C: Clock>(
-    clock: &C,
-    lock: &Shared<'_, Q>,
-    ask: Ask,
-    now: Instant,
-    party: &mut Q::Party,
-) -> Said
+fn upgrade<
+    Q: RawRwLockUpgradeTimed<Duration = Duration, Instant = Instant> + Drop,
+    C: Clock,
+    A: Memory,
+>(clock: &C, lock: &Shared<Q, A>, ask: Ask, now: Instant, party: &mut Q::Party) -> Said
 where
     Q::Runtime: Wait,
 {
@@ -151,46 +151,72 @@ where
     }
 }
 
-fn in_arc<T: Drop, E: Drop>(heap: &Heap, lock: Result<T, E>) -> Option<Arc<T, &Heap>> {
+fn in_arc<T: Drop, E: Drop, A: Memory>(alloc: A, lock: Result<T, E>) -> Option<Arc<T, A>> {
     match lock {
-        Ok(lock) => Arc::new(heap, lock).ok(),
+        Ok(lock) => Arc::new(alloc, lock).ok(),
         Err(_) => None,
     }
 }
 
-fn on_mutex<R: Wait + Clock + Copy + Drop>(rt: R, heap: &Heap, ask: Ask) -> Option<Seen> {
-    let now = Instant::now(&rt).ok()?;
-    let mutex: Mutual<'_, PackedMutex<R>> = in_arc(heap, Mutex::new(rt, 5))?;
+fn on_mutex<R: Wait + Clock + Copy + Drop, A: Memory>(
+    rt: R,
+    heap: &Heap,
+    alloc: A,
+    ask: Ask,
+    now: Instant,
+) -> Option<Seen> {
+    let mutex: Mutual<PackedMutex<R>, A> = in_arc(alloc, Mutex::new(rt, 5))?;
     let before = heap.asked();
     lock(&rt, &mutex, ask, now, &mut 1).seen(heap, before, !mutex.is_locked())
 }
 
-fn on_nested<R: Wait + Clock + Copy + Drop>(rt: R, heap: &Heap, ask: Ask) -> Option<Seen> {
-    let now = Instant::now(&rt).ok()?;
-    let mutex: Nested<'_, PackedMutex<R>, Parties> = in_arc(heap, ReentrantMutex::new(rt, 2, 5))?;
+fn on_nested<R: Wait + Clock + Copy + Drop, A: Memory>(
+    rt: R,
+    heap: &Heap,
+    alloc: A,
+    ask: Ask,
+    now: Instant,
+) -> Option<Seen> {
+    let mutex: Nested<PackedMutex<R>, Parties, A> = in_arc(alloc, ReentrantMutex::new(rt, 2, 5))?;
     let before = heap.asked();
     nest(&rt, &mutex, ask, now, &mut 1).seen(heap, before, !mutex.is_locked())
 }
 
-fn on_lock<R: Wait + Clock + Copy + Drop>(rt: R, heap: &Heap, call: OfArc) -> Option<Seen> {
-    let now = Instant::now(&rt).ok()?;
-    let lock: Shared<'_, PackedLock<R>> = in_arc(heap, RwLock::new(rt, 4, 5))?;
-    let before = heap.asked();
-    let said = match call {
-        OfArc::Reads(ask) => read(&rt, &lock, ask, now, &mut 1),
-        OfArc::Writes(ask) => write(&rt, &lock, ask, now, &mut 1),
-        OfArc::Upgrades(ask) => upgrade(&rt, &lock, ask, now, &mut 1),
+fn ask_lock<
+    Q: RawRwLockUpgradeTimed<Duration = Duration, Instant = Instant> + Drop,
+    C: Clock,
+    A: Memory,
+>(clock: &C, lock: &Shared<Q, A>, call: OfArc, now: Instant, party: &mut Q::Party) -> Said
+where
+    Q::Runtime: Wait,
+{
+    match call {
+        OfArc::Reads(ask) => read(clock, lock, ask, now, party),
+        OfArc::Writes(ask) => write(clock, lock, ask, now, party),
+        OfArc::Upgrades(ask) => upgrade(clock, lock, ask, now, party),
         _ => Said::Other,
-    };
-    said.seen(heap, before, !lock.is_locked())
+    }
+}
+
+fn on_lock<R: Wait + Clock + Copy + Drop, A: Memory>(
+    rt: R,
+    heap: &Heap,
+    alloc: A,
+    call: OfArc,
+    now: Instant,
+) -> Option<Seen> {
+    let lock: Shared<PackedLock<R>, A> = in_arc(alloc, RwLock::new(rt, 4, 5))?;
+    let before = heap.asked();
+    ask_lock(&rt, &lock, call, now, &mut 1).seen(heap, before, !lock.is_locked())
 }
 
 impl<R: Wait + Clock + Copy + Drop> Case<R> for OfArc {
     fn run(self, rt: R, heap: &Heap) -> Option<Seen> {
+        let now = Instant::now(&rt).ok()?;
         match self {
-            OfArc::Locks(ask) => on_mutex(rt, heap, ask),
-            OfArc::Nests(ask) => on_nested(rt, heap, ask),
-            _ => on_lock(rt, heap, self),
+            OfArc::Locks(ask) => on_mutex(rt, heap, heap, ask, now),
+            OfArc::Nests(ask) => on_nested(rt, heap, heap, ask, now),
+            _ => on_lock(rt, heap, heap, self, now),
         }
     }
 }

@@ -1,9 +1,10 @@
 //! The desk of a lock.
 
+use crate::memory::Memory;
 use lock_api_desk::{Desk, DeskCall, DeskFault, DeskRunFault, TokenTable};
 use refusing_heap::{Case, Heap, Line, Said, Seen};
 
-type Small<'h> = Desk<TokenTable, u64, &'h Heap>;
+type Small<A> = Desk<TokenTable, u64, A>;
 
 const LISTED: u64 = 12;
 
@@ -25,7 +26,7 @@ pub enum Call {
 }
 
 /// Makes a call that isn't a list.
-fn made(desk: &mut Small<'_>, call: Call) -> Result<(), DeskFault> {
+fn made<A: Memory>(desk: &mut Small<A>, call: Call) -> Result<(), DeskFault> {
     match call {
         Call::Reserve => desk.reserve(9),
         Call::Lock => desk.lock(1, 1),
@@ -41,7 +42,7 @@ fn made(desk: &mut Small<'_>, call: Call) -> Result<(), DeskFault> {
 }
 
 /// How many of the guards 1, 2, .. are held.
-fn held(desk: &Small<'_>) -> u64 {
+fn held<A: Memory>(desk: &Small<A>) -> u64 {
     let mut count = 0u64;
     for guard in 1..LISTED + 1 {
         if desk.held(guard).is_some() {
@@ -52,22 +53,12 @@ fn held(desk: &Small<'_>) -> u64 {
 }
 
 /// Whether nothing is held, and a writer is let in and out.
-fn is_free(desk: &mut Small<'_>) -> bool {
-    let is_let_in = held(desk) == 0 && desk.write(7, 70) == Ok(());
-    is_let_in && desk.unlock(7, 70) == Ok(())
-}
-
-/// Makes a call that isn't a list, and looks at the desk.
-fn ask(heap: &Heap, desk: &mut Small<'_>, call: Call, before: u64) -> Option<Seen> {
-    let said = made(desk, call);
-    let behind = heap.asked();
-    let is_short = said == Err(DeskFault::NoMemory) && is_free(desk);
-    let said = Said::of(said == Ok(()), is_short);
-    Seen::of(before, behind, said.fits(heap) && *desk.value() == 5)
+fn is_free<A: Memory>(desk: &mut Small<A>) -> bool {
+    held(desk) == 0 && desk.write(7, 70).is_ok() && desk.unlock(7, 70).is_ok()
 }
 
 /// What came of a list: as many reads as it tells were made and hold, and no others.
-fn of_run(desk: &Small<'_>, said: Result<(), DeskRunFault>) -> Said {
+fn of_run<A: Memory>(desk: &Small<A>, said: Result<(), DeskRunFault>) -> Said {
     match said {
         Ok(()) => Said::of(held(desk) == LISTED, false),
         Err(fault) => {
@@ -79,26 +70,46 @@ fn of_run(desk: &Small<'_>, said: Result<(), DeskRunFault>) -> Said {
     }
 }
 
-/// Runs a list of reads on a new desk.
-fn run_reads(heap: &Heap) -> Option<Seen> {
-    let mut calls = Vec::new(heap);
+/// The reads of the guards 1, 2, ..
+fn reads<A: Memory>(alloc: A) -> Option<Vec<DeskCall<u64>, A>> {
+    let mut calls = Vec::new(alloc);
     for guard in 1..LISTED + 1 {
         calls.push(DeskCall::Read(1, guard)).ok()?;
     }
+    Some(calls)
+}
+
+/// Runs a list of reads.
+fn run_reads<A: Memory>(heap: &Heap, alloc: A, desk: &mut Small<A>) -> Option<Seen> {
+    let calls = reads(alloc)?;
     let before = heap.asked();
-    let mut desk: Small<'_> = Desk::new(heap, TokenTable::new(99), 5);
     let said = desk.run(calls);
-    of_run(&desk, said).seen(heap, before, true)
+    of_run(desk, said).seen(heap, before, true)
+}
+
+/// Makes a call that isn't a list, and looks at the desk. So many growths were asked for before it was made.
+fn ask<A: Memory>(heap: &Heap, desk: &mut Small<A>, call: Call, before: u64) -> Option<Seen> {
+    let said = made(desk, call);
+    let behind = heap.asked();
+    let said = match said {
+        Ok(()) => Said::Done,
+        Err(fault) => Said::of(false, fault == DeskFault::NoMemory && is_free(desk)),
+    };
+    Seen::of(before, behind, said.fits(heap) && *desk.value() == 5)
+}
+
+fn on_desk<A: Memory>(heap: &Heap, alloc: A, call: Call) -> Option<Seen> {
+    let before = heap.asked();
+    let mut desk: Small<A> = Desk::new(alloc, TokenTable::new(99), 5);
+    match call {
+        Call::Run => run_reads(heap, alloc, &mut desk),
+        _ => ask(heap, &mut desk, call, before),
+    }
 }
 
 impl<R: Drop> Case<R> for Call {
     fn run(self, _rt: R, heap: &Heap) -> Option<Seen> {
-        if let Call::Run = self {
-            return run_reads(heap);
-        }
-        let before = heap.asked();
-        let mut desk: Small<'_> = Desk::new(heap, TokenTable::new(99), 5);
-        ask(heap, &mut desk, self, before)
+        on_desk(heap, heap, self)
     }
 }
 

@@ -1,10 +1,9 @@
 //! Worlds of locks.
 
+use crate::memory::{Memory, is_done, listed};
 use parking_lot_core::SizeFault;
 use parking_lot_world::{LockAnswer, LockCall, LockKind, World, WorldStep};
-use refusing_heap::{Case, Heap, Line, Said, Seen, listed, made};
-
-type Small<'h> = World<&'h Heap>;
+use refusing_heap::{Case, Heap, Line, Said, Seen, made};
 
 /// The kinds of its locks.
 type Kinds = &'static [LockKind];
@@ -20,7 +19,7 @@ pub enum Call {
 }
 
 /// A thread asks for the mutex, and goes on until its call is answered, 50 steps at most. The last step is refused.
-fn lock(world: &mut Small<'_>, thread: usize) -> bool {
+fn lock<A: Memory>(world: &mut World<A>, thread: usize) -> bool {
     let is_begun = world
         .run(&[WorldStep::Begin(thread, 0, LockCall::Lock)])
         .is_ok();
@@ -33,13 +32,13 @@ fn lock(world: &mut Small<'_>, thread: usize) -> bool {
 }
 
 /// Thread 0 owns the mutex, lock 0, and thread 1 waits for it.
-fn play(world: &mut Small<'_>) -> bool {
+fn play<A: Memory>(world: &mut World<A>) -> bool {
     let are_begun = lock(world, 0) && lock(world, 1);
     are_begun && world.answer(0) == Some(LockAnswer::Owned) && world.answer(1).is_none()
 }
 
 /// What came of a view of who owns a mutex, who waits for it, or who owes a wake.
-fn list(world: &Small<'_>, call: Call) -> Said {
+fn list<A: Memory>(world: &World<A>, call: Call) -> Said {
     match call {
         Call::Owners => listed(world.owners(0), 1, SizeFault::NoMemory),
         Call::Queue => listed(world.queue(0), 1, SizeFault::NoMemory),
@@ -50,28 +49,43 @@ fn list(world: &Small<'_>, call: Call) -> Said {
 
 /// Asks a view, or runs steps, in a world where one thread owns a mutex and another waits. A view may do with less
 /// memory than it asks for first.
-fn look(heap: &Heap, world: &mut Small<'_>, call: Call) -> Option<Seen> {
+fn look<A: Memory>(heap: &Heap, world: &mut World<A>, call: Call) -> Option<Seen> {
     let made = heap.asked();
     let is_played = play(world);
     let played = heap.asked();
     let before = if let Call::Run = call { made } else { played };
     let said = list(world, call);
     let behind = heap.asked();
-    let is_owned = list(world, Call::Owners) == Said::Done;
-    let is_kept = is_owned && list(world, Call::Queue) == Said::Done;
+    let is_owned = is_done(list(world, Call::Owners));
+    let is_kept = is_owned && is_done(list(world, Call::Queue));
     Seen::of(before, behind, said.may_fit(heap) && is_played && is_kept)
+}
+
+fn make_world<A: Memory>(heap: &Heap, alloc: A, kinds: Kinds) -> Option<Seen> {
+    let kinds = Vec::from_slice(alloc, kinds).ok()?;
+    let before = heap.asked();
+    made(World::new(alloc, 3, kinds), SizeFault::NoMemory).seen(heap, before, true)
+}
+
+/// A world of three threads and a lock of each kind.
+fn world_of<A: Memory>(alloc: A) -> Option<World<A>> {
+    let kinds = Vec::from_slice(alloc, EACH).ok()?;
+    World::new(alloc, 3, kinds).ok()
+}
+
+fn with_world<A: Memory>(heap: &Heap, alloc: A, call: Call) -> Option<Seen> {
+    match world_of(alloc) {
+        Some(mut world) => look(heap, &mut world, call),
+        None => None,
+    }
 }
 
 impl<R: Drop> Case<R> for Call {
     fn run(self, _rt: R, heap: &Heap) -> Option<Seen> {
-        if let Call::New(kinds) = self {
-            let kinds = Vec::from_slice(heap, kinds).ok()?;
-            let before = heap.asked();
-            let world = World::new(heap, 3, kinds);
-            return made(world, SizeFault::NoMemory).seen(heap, before, true);
+        match self {
+            Call::New(kinds) => make_world(heap, heap, kinds),
+            _ => with_world(heap, heap, self),
         }
-        let kinds = Vec::from_slice(heap, EACH).ok()?;
-        look(heap, &mut World::new(heap, 3, kinds).ok()?, self)
     }
 }
 

@@ -1,12 +1,10 @@
 //! The lot, with threads and without, and the table of locks on it.
 
+use crate::memory::{Memory, is_done, listed};
 use parking_lot_core::{DEFAULT_PARK_TOKEN, Lot, LotFault, ParkingLot, SizeFault, deadlock};
 use parking_lot_rwlock::LockTable;
-use refusing_heap::{Case, Heap, Line, Said, Seen, listed, made};
+use refusing_heap::{Case, Heap, Line, Said, Seen, made};
 use std::sync::Wait;
-
-/// A lot of threads in a heap.
-type Shared<'h, R> = ParkingLot<R, &'h Heap>;
 
 const MOST: usize = 40;
 
@@ -24,7 +22,7 @@ pub enum Call {
 
 /// Registers so many threads, of which the first gets the resource 9 and waits under the key 5, and the second gets
 /// three.
-fn fill(lot: &mut Lot<&Heap>, threads: usize) -> Option<()> {
+fn fill<A: Memory>(lot: &mut Lot<A>, threads: usize) -> Option<()> {
     for thread in 0..threads {
         lot.register().ok()?;
         let last = if thread > 0 { 12 } else { 10 };
@@ -39,20 +37,21 @@ fn fill(lot: &mut Lot<&Heap>, threads: usize) -> Option<()> {
 }
 
 /// Whether a thread has so many resources.
-fn has(lot: &Lot<&Heap>, thread: usize, resources: usize) -> bool {
-    listed(lot.resources(thread), resources, LotFault::NoMemory) == Said::Done
+fn has<A: Memory>(lot: &Lot<A>, thread: usize, resources: usize) -> bool {
+    is_done(listed(lot.resources(thread), resources, LotFault::NoMemory))
 }
 
-fn make(lot: &mut Lot<&Heap>, call: Call) -> Said {
+fn make<A: Memory>(lot: &mut Lot<A>, call: Call) -> Said {
     match call {
         Call::Register(threads) => {
             let buckets = lot.buckets();
-            let said = lot.register();
-            let is_free = lot.status(threads).is_none() && lot.buckets() == buckets;
-            Said::of(
-                said == Ok(threads),
-                said == Err(LotFault::NoMemory) && is_free,
-            )
+            match lot.register() {
+                Ok(thread) => Said::of(thread == threads, false),
+                Err(fault) => {
+                    let is_free = lot.status(threads).is_none() && lot.buckets() == buckets;
+                    Said::of(false, fault == LotFault::NoMemory && is_free)
+                }
+            }
         }
         Call::Resources => listed(lot.resources(0), 1, LotFault::NoMemory),
         Call::Queue => listed(lot.queue(5), 1, LotFault::NoMemory),
@@ -62,7 +61,7 @@ fn make(lot: &mut Lot<&Heap>, call: Call) -> Said {
 
 /// Makes a call. A refused one is made again, and is answered then as if it hadn't been made before. A list may do
 /// with less memory than it asks for first.
-fn ask(heap: &Heap, lot: &mut Lot<&Heap>, call: Call) -> Option<Seen> {
+fn ask<A: Memory>(heap: &Heap, lot: &mut Lot<A>, call: Call) -> Option<Seen> {
     let (threads, second) = match call {
         Call::Register(threads) => (threads, 3),
         Call::AcquireResource => (2, 4),
@@ -76,20 +75,32 @@ fn ask(heap: &Heap, lot: &mut Lot<&Heap>, call: Call) -> Option<Seen> {
         Call::Resources | Call::Queue => said.may_fit(heap),
         _ => said.fits(heap),
     };
-    let is_whole = fits && (said == Said::Done || make(lot, call) == Said::Done);
-    let is_kept = threads == 0 || (has(lot, 0, 1) && make(lot, Call::Queue) == Said::Done);
+    let is_whole = fits && (is_done(said) || is_done(make(lot, call)));
+    let is_kept = threads == 0 || (has(lot, 0, 1) && is_done(make(lot, Call::Queue)));
     let is_right = is_whole && is_kept && (threads < 2 || has(lot, 1, second));
     Seen::of(before, behind, is_right)
 }
 
+/// Makes a call on a new lot.
+fn with_new<A: Memory>(heap: &Heap, lot: Result<Lot<A>, SizeFault>, call: Call) -> Option<Seen> {
+    match lot {
+        Ok(mut lot) => ask(heap, &mut lot, call),
+        Err(_) => None,
+    }
+}
+
+fn run<A: Memory>(heap: &Heap, alloc: A, call: Call) -> Option<Seen> {
+    let before = heap.asked();
+    let lot = Lot::new(alloc, MOST, 7);
+    match call {
+        Call::New => made(lot, SizeFault::NoMemory).seen(heap, before, true),
+        _ => with_new(heap, lot, call),
+    }
+}
+
 impl<R: Drop> Case<R> for Call {
     fn run(self, _rt: R, heap: &Heap) -> Option<Seen> {
-        if let Call::New = self {
-            let before = heap.asked();
-            return made(Lot::new(heap, MOST, 7), SizeFault::NoMemory).seen(heap, before, true);
-        }
-        let mut lot = Lot::new(heap, MOST, 7).ok()?;
-        ask(heap, &mut lot, self)
+        run(heap, heap, self)
     }
 }
 
@@ -104,14 +115,14 @@ pub enum SharedCall {
     LockTable,
 }
 
-fn admitted<R: Wait>(lot: &Shared<'_, R>) -> Result<usize, LotFault> {
+fn admitted<R: Wait, A: Memory>(lot: &ParkingLot<R, A>) -> Result<usize, LotFault> {
     match lot.thread_data() {
         Ok(me) => Ok(me.thread_number()),
         Err(fault) => Err(fault),
     }
 }
 
-fn admit<R: Wait>(heap: &Heap, lot: &Shared<'_, R>, threads: usize) -> Option<Seen> {
+fn admit<R: Wait, A: Memory>(heap: &Heap, lot: &ParkingLot<R, A>, threads: usize) -> Option<Seen> {
     for _ in 0..threads {
         admitted(lot).ok()?;
     }
@@ -124,51 +135,81 @@ fn admit<R: Wait>(heap: &Heap, lot: &Shared<'_, R>, threads: usize) -> Option<Se
 }
 
 /// Records a resource of a thread.
-fn note<R: Wait>(heap: &Heap, lot: &Shared<'_, R>) -> Option<Seen> {
+fn note<R: Wait, A: Memory>(heap: &Heap, lot: &ParkingLot<R, A>) -> Option<Seen> {
     let mut me = lot.thread_data().ok()?;
     let before = heap.asked();
     let said = made(deadlock::acquire_resource(&mut me, 9), LotFault::NoMemory);
     let behind = heap.asked();
-    let count = if said == Said::Done { 1 } else { 0 };
+    let count = if is_done(said) { 1 } else { 0 };
     let list = listed(deadlock::resources(&me), count, LotFault::NoMemory);
-    Seen::of(before, behind, said.fits(heap) && list == Said::Done)
+    Seen::of(before, behind, said.fits(heap) && is_done(list))
 }
 
 /// Lists the resource of a thread, which may do with less memory than it asks for first.
-fn list<R: Wait>(heap: &Heap, lot: &Shared<'_, R>) -> Option<Seen> {
+fn list<R: Wait, A: Memory>(heap: &Heap, lot: &ParkingLot<R, A>) -> Option<Seen> {
     let mut me = lot.thread_data().ok()?;
     deadlock::acquire_resource(&mut me, 9).ok()?;
     let before = heap.asked();
     let said = listed(deadlock::resources(&me), 1, LotFault::NoMemory);
     let behind = heap.asked();
     let again = listed(deadlock::resources(&me), 1, LotFault::NoMemory);
-    Seen::of(before, behind, said.may_fit(heap) && again == Said::Done)
+    Seen::of(before, behind, said.may_fit(heap) && is_done(again))
 }
 
 /// Makes a table of three locks. A refused one has claimed no key of the lot, of which each lock has two.
-fn make_table<'h, R: Wait>(heap: &'h Heap, lot: &Shared<'h, R>) -> Option<Seen> {
+fn make_table<R: Wait, A: Memory>(heap: &Heap, alloc: A, lot: &ParkingLot<R, A>) -> Option<Seen> {
     let before = heap.asked();
-    let said = made(LockTable::new(heap, lot, 3), SizeFault::NoMemory);
+    let said = made(LockTable::new(alloc, lot, 3), SizeFault::NoMemory);
     let behind = heap.asked();
-    let wanted = if said == Said::Done { 6 } else { 0 };
+    let wanted = if is_done(said) { 6 } else { 0 };
     let is_right = said.fits(heap) && lot.claim_keys(2) == wanted;
     Seen::of(before, behind, is_right)
 }
 
+fn ask_shared<R: Wait, A: Memory>(
+    heap: &Heap,
+    alloc: A,
+    lot: &ParkingLot<R, A>,
+    call: SharedCall,
+) -> Option<Seen> {
+    match call {
+        SharedCall::ThreadData(threads) => admit(heap, lot, threads),
+        SharedCall::AcquireResource => note(heap, lot),
+        SharedCall::Resources => list(heap, lot),
+        SharedCall::New | SharedCall::LockTable => make_table(heap, alloc, lot),
+    }
+}
+
+/// Makes a call on a new lot of threads.
+fn with_shared<R: Wait + Drop, A: Memory>(
+    heap: &Heap,
+    alloc: A,
+    lot: Result<ParkingLot<R, A>, SizeFault>,
+    call: SharedCall,
+) -> Option<Seen> {
+    match lot {
+        Ok(lot) => ask_shared(heap, alloc, &lot, call),
+        Err(_) => None,
+    }
+}
+
+fn run_shared<R: Wait + Drop, A: Memory>(
+    rt: R,
+    heap: &Heap,
+    alloc: A,
+    call: SharedCall,
+) -> Option<Seen> {
+    let before = heap.asked();
+    let lot = ParkingLot::new(rt, alloc, MOST, 7);
+    match call {
+        SharedCall::New => made(lot, SizeFault::NoMemory).seen(heap, before, true),
+        _ => with_shared(heap, alloc, lot, call),
+    }
+}
+
 impl<R: Wait + Copy + Drop> Case<R> for SharedCall {
     fn run(self, rt: R, heap: &Heap) -> Option<Seen> {
-        let before = heap.asked();
-        if let SharedCall::New = self {
-            let lot = ParkingLot::new(rt, heap, MOST, 7);
-            return made(lot, SizeFault::NoMemory).seen(heap, before, true);
-        }
-        let lot = ParkingLot::new(rt, heap, MOST, 7).ok()?;
-        match self {
-            SharedCall::ThreadData(threads) => admit(heap, &lot, threads),
-            SharedCall::AcquireResource => note(heap, &lot),
-            SharedCall::Resources => list(heap, &lot),
-            SharedCall::New | SharedCall::LockTable => make_table(heap, &lot),
-        }
+        run_shared(rt, heap, heap, self)
     }
 }
 

@@ -1,12 +1,12 @@
 //! How maps and sets are made, over a table of locks whose rows are counted.
 
+use crate::memory::Memory;
 use crate::rows::{On, Rows, keys, pairs};
 use dashmap::set::DashSet;
 use dashmap_calls::Numbers;
 use dashmap_map::{DashMap, NewFault};
 use dashmap_plain::from_par_iter;
 use dashmap_table::{MapFault, SpreadState};
-use lock_api_raw::{MakeLock, RawRwLock};
 use refusing_heap::{Heap, Line, Said, Seen, made};
 use std::hash::RandomState;
 use std::random::RandomSource;
@@ -30,143 +30,117 @@ pub enum Make {
     ParIter,
 }
 
-type Map<'h, S, Q> = Numbers<S, Q, &'h Heap>;
+type Map<S, T, A> = Numbers<S, <T as Rows>::Lock, A>;
 
-type Set<'h, S, Q> = DashSet<u64, S, Q, &'h Heap>;
+type Set<S, T, A> = DashSet<u64, S, <T as Rows>::Lock, A>;
 
 type Made<M> = Result<M, MapFault>;
 
 /// Makes a map with its own hasher.
-fn new_map<'h, Q: RawRwLock + MakeLock<T> + Drop, T: Copy + Drop>(
-    heap: &'h Heap,
+fn new_map<T: Rows, A: Memory>(
+    alloc: A,
     table: T,
     make: Make,
-) -> Result<Map<'h, RandomState, Q>, NewFault>
+) -> Result<Map<RandomState, T, A>, NewFault>
 where
-    Q::Runtime: RandomSource,
+    T::Runtime: RandomSource,
 {
     match make {
-        Make::New => DashMap::new(heap, 1, table),
-        Make::WithCapacity => DashMap::with_capacity(heap, 100, 1, table),
-        Make::WithShards => DashMap::with_shard_amount(heap, TAKEN, table),
-        _ => DashMap::with_capacity_and_shard_amount(heap, 100, TAKEN, table),
+        Make::New => DashMap::new(alloc, 1, table),
+        Make::WithCapacity => DashMap::with_capacity(alloc, 100, 1, table),
+        Make::WithShards => DashMap::with_shard_amount(alloc, TAKEN, table),
+        _ => DashMap::with_capacity_and_shard_amount(alloc, 100, TAKEN, table),
     }
 }
 
 /// Makes an empty map with this hasher.
-fn map_by<'h, Q: RawRwLock + MakeLock<T> + Drop, T: Copy + Drop>(
-    heap: &'h Heap,
-    table: T,
-    make: Make,
-) -> Made<Map<'h, SpreadState, Q>> {
+fn map_by<T: Rows, A: Memory>(alloc: A, table: T, make: Make) -> Made<Map<SpreadState, T, A>> {
     let by = SpreadState;
     match make {
-        Make::By => DashMap::with_hasher(heap, by, 1, table),
-        Make::ByCapacity => DashMap::with_capacity_and_hasher(heap, 100, by, 1, table),
-        Make::ByShards => DashMap::with_hasher_and_shard_amount(heap, by, TAKEN, table),
+        Make::By => DashMap::with_hasher(alloc, by, 1, table),
+        Make::ByCapacity => DashMap::with_capacity_and_hasher(alloc, 100, by, 1, table),
+        Make::ByShards => DashMap::with_hasher_and_shard_amount(alloc, by, TAKEN, table),
         Make::ByBoth => {
-            DashMap::with_capacity_and_hasher_and_shard_amount(heap, 100, by, TAKEN, table)
+            DashMap::with_capacity_and_hasher_and_shard_amount(alloc, 100, by, TAKEN, table)
         }
-        _ => DashMap::default(heap, by, 1, table),
+        _ => DashMap::default(alloc, by, 1, table),
     }
 }
 
-fn map_of<'h, Q: RawRwLock + MakeLock<T> + Drop, T: Copy + Drop>(
-    heap: &'h Heap,
-    table: T,
-    make: Make,
-    pairs: Vec<(u64, u64), &'h Heap>,
-) -> Made<Map<'h, SpreadState, Q>> {
-    match make {
-        Make::Iter => DashMap::from_iter(heap, pairs.into_iter(), SpreadState, 1, table),
-        _ => from_par_iter(heap, pairs, SpreadState, 1, table),
-    }
+/// Makes a map of pairs.
+fn map_of<T: Rows, A: Memory>(heap: &Heap, alloc: A, table: T, make: Make) -> Option<Seen> {
+    let (pairs, by) = (pairs(alloc)?, SpreadState);
+    let before = heap.asked();
+    let map: Made<Map<SpreadState, T, A>> = match make {
+        Make::Iter => DashMap::from_iter(alloc, pairs.into_iter(), by, 1, table),
+        _ => from_par_iter(alloc, pairs, by, 1, table),
+    };
+    made(map, MapFault::NoMemory).seen(heap, before, table.are_taken(TAKEN))
 }
 
 /// Makes a map. The rows that it took stay used, of a refused one too.
-pub fn make_map<Q: RawRwLock + MakeLock<T> + Drop, T: Rows + Drop>(
-    heap: &Heap,
-    table: T,
-    make: Make,
-) -> Option<Seen>
+pub fn make_map<T: Rows, A: Memory>(heap: &Heap, alloc: A, table: T, make: Make) -> Option<Seen>
 where
-    Q::Runtime: RandomSource,
+    T::Runtime: RandomSource,
 {
-    let pairs = pairs(heap)?;
     let before = heap.asked();
     let said = match make {
         Make::New | Make::WithCapacity | Make::WithShards | Make::WithBoth => made(
-            new_map::<Q, T>(heap, table, make),
+            new_map::<T, A>(alloc, table, make),
             NewFault::Map(MapFault::NoMemory),
         ),
-        Make::Iter | Make::ParIter => made(
-            map_of::<Q, T>(heap, table, make, pairs),
-            MapFault::NoMemory,
-        ),
-        _ => made(map_by::<Q, T>(heap, table, make), MapFault::NoMemory),
+        Make::Iter | Make::ParIter => return map_of::<T, A>(heap, alloc, table, make),
+        _ => made(map_by::<T, A>(alloc, table, make), MapFault::NoMemory),
     };
     said.seen(heap, before, table.are_taken(TAKEN))
 }
 
-fn new_set<'h, Q: RawRwLock + MakeLock<T> + Drop, T: Copy + Drop>(
-    heap: &'h Heap,
+fn new_set<T: Rows, A: Memory>(
+    alloc: A,
     table: T,
     make: Make,
-) -> Result<Set<'h, RandomState, Q>, NewFault>
+) -> Result<Set<RandomState, T, A>, NewFault>
 where
-    Q::Runtime: RandomSource,
+    T::Runtime: RandomSource,
 {
     match make {
-        Make::New => DashSet::new(heap, 1, table),
-        _ => DashSet::with_capacity(heap, 100, 1, table),
+        Make::New => DashSet::new(alloc, 1, table),
+        _ => DashSet::with_capacity(alloc, 100, 1, table),
     }
 }
 
-fn set_by<'h, Q: RawRwLock + MakeLock<T> + Drop, T: Copy + Drop>(
-    heap: &'h Heap,
-    table: T,
-    make: Make,
-) -> Made<Set<'h, SpreadState, Q>> {
+fn set_by<T: Rows, A: Memory>(alloc: A, table: T, make: Make) -> Made<Set<SpreadState, T, A>> {
     match make {
-        Make::By => DashSet::with_hasher(heap, SpreadState, 1, table),
-        Make::ByCapacity => DashSet::with_capacity_and_hasher(heap, 100, SpreadState, 1, table),
-        _ => DashSet::default(heap, SpreadState, 1, table),
+        Make::By => DashSet::with_hasher(alloc, SpreadState, 1, table),
+        Make::ByCapacity => DashSet::with_capacity_and_hasher(alloc, 100, SpreadState, 1, table),
+        _ => DashSet::default(alloc, SpreadState, 1, table),
     }
 }
 
-fn set_of<'h, Q: RawRwLock + MakeLock<T> + Drop, T: Copy + Drop>(
-    heap: &'h Heap,
-    table: T,
-    make: Make,
-    keys: Vec<u64, &'h Heap>,
-) -> Made<Set<'h, SpreadState, Q>> {
-    match make {
-        Make::Iter => DashSet::from_iter(heap, keys.into_iter(), SpreadState, 1, table),
-        _ => DashSet::from_par_iter(heap, keys, SpreadState, 1, table),
-    }
+/// Makes a set of keys.
+fn set_of<T: Rows, A: Memory>(heap: &Heap, alloc: A, table: T, make: Make) -> Option<Seen> {
+    let (keys, by) = (keys(alloc)?, SpreadState);
+    let before = heap.asked();
+    let set: Made<Set<SpreadState, T, A>> = match make {
+        Make::Iter => DashSet::from_iter(alloc, keys.into_iter(), by, 1, table),
+        _ => DashSet::from_par_iter(alloc, keys, by, 1, table),
+    };
+    made(set, MapFault::NoMemory).seen(heap, before, table.are_taken(TAKEN))
 }
 
 /// Makes a set, as a map is made.
-pub fn make_set<Q: RawRwLock + MakeLock<T> + Drop, T: Rows + Drop>(
-    heap: &Heap,
-    table: T,
-    make: Make,
-) -> Option<Seen>
+pub fn make_set<T: Rows, A: Memory>(heap: &Heap, alloc: A, table: T, make: Make) -> Option<Seen>
 where
-    Q::Runtime: RandomSource,
+    T::Runtime: RandomSource,
 {
-    let keys = keys(heap)?;
     let before = heap.asked();
     let said = match make {
         Make::New | Make::WithCapacity => made(
-            new_set::<Q, T>(heap, table, make),
+            new_set::<T, A>(alloc, table, make),
             NewFault::Map(MapFault::NoMemory),
         ),
-        Make::Iter | Make::ParIter => made(
-            set_of::<Q, T>(heap, table, make, keys),
-            MapFault::NoMemory,
-        ),
-        _ => made(set_by::<Q, T>(heap, table, make), MapFault::NoMemory),
+        Make::Iter | Make::ParIter => return set_of::<T, A>(heap, alloc, table, make),
+        _ => made(set_by::<T, A>(alloc, table, make), MapFault::NoMemory),
     };
     said.seen(heap, before, table.are_taken(TAKEN))
 }

@@ -12,6 +12,7 @@ mod lots;
 mod made;
 mod map_worlds;
 mod maps;
+mod memory;
 mod owners;
 mod records;
 mod rows;

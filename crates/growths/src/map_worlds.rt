@@ -1,13 +1,14 @@
 //! Worlds of maps, whose threads go by a schedule.
 
 use crate::maps::wanted;
+use crate::memory::{Memory, is_done, listed};
 use dashmap_table::SpreadState;
 use mapworld::{MapWorld, NoMemory, Status, Step, WorldNewFault};
 use mapworld_text::{Asked, Case as Text, Change, Shown, read};
-use refusing_heap::{Case, Heap, Line, Said, Seen, listed, made, refused_growth};
+use refusing_heap::{Case, Heap, Line, Said, Seen, made, refused_growth};
 use std::alloc::{AllocError, Global};
 
-type World<'h> = MapWorld<u64, u64, SpreadState, Change, &'h Heap>;
+type World<A> = MapWorld<u64, u64, SpreadState, Change, A>;
 
 const SHARDS: usize = 2;
 
@@ -23,28 +24,46 @@ pub struct Played(
     &'static [&'static str],
 );
 
-type Programs<'h> = Vec<Vec<Asked, &'h Heap>, &'h Heap>;
+type Programs<A> = Vec<Vec<Asked, A>, A>;
 
-fn program_in<'h>(heap: &'h Heap, program: Vec<Asked>) -> Option<Vec<Asked, &'h Heap>> {
-    let mut moved = Vec::new(heap);
+fn program_in<A: Memory>(alloc: A, program: Vec<Asked>) -> Option<Vec<Asked, A>> {
+    let (mut moved, mut is_moved) = (Vec::new(alloc), true);
     for ask in program {
-        moved.push(ask).ok()?;
+        is_moved &= moved.push(ask).is_ok();
     }
-    Some(moved)
+    match is_moved {
+        true => Some(moved),
+        false => None,
+    }
 }
 
-fn programs_in<'h>(heap: &'h Heap, text: &str) -> Option<Programs<'h>> {
-    let programs = read(*heap.inner(), text).ok()?.pop()?.programs;
-    let mut moved = Vec::new(heap);
-    for program in programs {
-        moved.push(program_in(heap, program)?).ok()?;
+/// Adds a program to those in this memory.
+fn add<A: Memory>(alloc: A, programs: &mut Programs<A>, program: Vec<Asked>) -> bool {
+    match program_in(alloc, program) {
+        Some(program) => programs.push(program).is_ok(),
+        None => false,
     }
-    Some(moved)
 }
 
-/// Pairs in the heap: these keys, each with 0.
-fn pairs_in<'h>(heap: &'h Heap, keys: &[u64]) -> Option<Vec<(u64, u64), &'h Heap>> {
-    let mut pairs = Vec::new(heap);
+/// The programs of a text.
+fn programs_of(alloc: Global, text: &str) -> Option<Vec<Vec<Asked>>> {
+    Some(read(alloc, text).ok()?.pop()?.programs)
+}
+
+fn programs_in<A: Memory>(heap: &Heap, alloc: A, text: &str) -> Option<Programs<A>> {
+    let (mut moved, mut are_moved) = (Vec::new(alloc), true);
+    for program in programs_of(*heap.inner(), text)? {
+        are_moved &= add(alloc, &mut moved, program);
+    }
+    match are_moved {
+        true => Some(moved),
+        false => None,
+    }
+}
+
+/// Pairs in this memory: these keys, each with 0.
+fn pairs_in<A: Memory>(alloc: A, keys: &[u64]) -> Option<Vec<(u64, u64), A>> {
+    let mut pairs = Vec::new(alloc);
     for key in keys {
         pairs.push((*key, 0)).ok()?;
     }
@@ -52,22 +71,23 @@ fn pairs_in<'h>(heap: &'h Heap, keys: &[u64]) -> Option<Vec<(u64, u64), &'h Heap
 }
 
 /// A world of these keys and of the programs of a text, and how many growths were asked for before.
-fn world_of<'h>(
-    heap: &'h Heap,
+fn world_of<A: Memory>(
+    heap: &Heap,
+    alloc: A,
     keys: &[u64],
     text: &str,
-) -> Option<(u64, Result<World<'h>, WorldNewFault>)> {
-    let programs = programs_in(heap, text)?;
-    let pairs = pairs_in(heap, keys)?;
+) -> Option<(u64, Result<World<A>, WorldNewFault>)> {
+    let programs = programs_in(heap, alloc, text)?;
+    let pairs = pairs_in(alloc, keys)?;
     let before = heap.asked();
     Some((
         before,
-        MapWorld::new(heap, SHARDS, SpreadState, pairs, programs),
+        MapWorld::new(alloc, SHARDS, SpreadState, pairs, programs),
     ))
 }
 
 /// Makes so many steps of a thread, or as many as it can.
-fn go(world: &mut World<'_>, thread: usize, steps: usize) {
+fn go<A: Memory>(world: &mut World<A>, thread: usize, steps: usize) {
     let step = Step {
         thread,
         fair: false,
@@ -80,7 +100,7 @@ fn go(world: &mut World<'_>, thread: usize, steps: usize) {
     }
 }
 
-fn count_of(world: &World<'_>) -> u64 {
+fn count_of<A: Memory>(world: &World<A>) -> u64 {
     let mut count = 0u64;
     for _pair in world.pairs() {
         count = count.wrapping_add(1);
@@ -89,7 +109,7 @@ fn count_of(world: &World<'_>) -> u64 {
 }
 
 /// Adds who was answered what, and whose the blocks are.
-fn tell_calls(world: &World<'_>, text: &mut String) -> Result<(), AllocError> {
+fn tell_calls<A: Memory>(world: &World<A>, text: &mut String) -> Result<(), AllocError> {
     for reply in world.replies() {
         write!(text, "{} {}, ", reply.thread, Shown(&reply.answer))?;
     }
@@ -101,7 +121,7 @@ fn tell_calls(world: &World<'_>, text: &mut String) -> Result<(), AllocError> {
 }
 
 /// Adds the pairs of the keys 1 and 2, and how many pairs there are.
-fn tell_pairs(world: &World<'_>, text: &mut String) -> Result<(), AllocError> {
+fn tell_pairs<A: Memory>(world: &World<A>, text: &mut String) -> Result<(), AllocError> {
     text.push_str(";")?;
     for key in 1..3 {
         if let Some((key, value)) = world.pair(&key) {
@@ -112,22 +132,22 @@ fn tell_pairs(world: &World<'_>, text: &mut String) -> Result<(), AllocError> {
 }
 
 /// Adds both.
-fn tell(world: &World<'_>, text: &mut String) -> Result<(), AllocError> {
+fn tell<A: Memory>(world: &World<A>, text: &mut String) -> Result<(), AllocError> {
     tell_calls(world, text)?;
     tell_pairs(world, text)
 }
 
-fn is_told(alloc: Global, world: &World<'_>, wanted: &str) -> bool {
+fn is_told<A: Memory>(alloc: Global, world: &World<A>, wanted: &str) -> bool {
     let mut text = String::new(alloc);
     tell(world, &mut text).is_ok() && text.as_str() == wanted
 }
 
 /// Whether each word is 0, nobody waits in a queue, and each thread is at its end.
-fn is_at_rest(world: &World<'_>) -> bool {
+fn is_at_rest<A: Memory>(world: &World<A>) -> bool {
     let mut rests = true;
     for key in 0..2 * SHARDS {
         let queue = listed(world.queue(key), 0, NoMemory);
-        rests &= queue == Said::Done && world.word(key / 2) == 0;
+        rests &= is_done(queue) && world.word(key / 2) == 0;
     }
     for thread in 0..world.threads() {
         rests &= world.status(thread) == Status::Finished;
@@ -136,7 +156,7 @@ fn is_at_rest(world: &World<'_>) -> bool {
 }
 
 /// Plays in a world to its end, and compares what is told then.
-fn play(heap: &Heap, world: &mut World<'_>, played: Played) -> Option<Seen> {
+fn play<A: Memory>(heap: &Heap, world: &mut World<A>, played: Played) -> Option<Seen> {
     let Played(_, _, steps, done, refused) = played;
     go(world, 0, steps);
     let mut sleeps = true;
@@ -152,10 +172,16 @@ fn play(heap: &Heap, world: &mut World<'_>, played: Played) -> Option<Seen> {
     Seen::of(before, behind, is_right && sleeps && drained > 0)
 }
 
+fn play_on<A: Memory>(heap: &Heap, alloc: A, played: Played) -> Option<Seen> {
+    match world_of(heap, alloc, played.0, played.1) {
+        Some((_, Ok(mut world))) => play(heap, &mut world, played),
+        _ => None,
+    }
+}
+
 impl<R: Drop> Case<R> for Played {
     fn run(self, _rt: R, heap: &Heap) -> Option<Seen> {
-        let (_, world) = world_of(heap, self.0, self.1)?;
-        play(heap, &mut world.ok()?, self)
+        play_on(heap, heap, self)
     }
 }
 
@@ -170,7 +196,7 @@ pub enum Whole {
 const HELD: &str = "thread a\n  get-mut 1\n    drop\nthread b\n  insert 1 7\n";
 
 /// What came of a view that is to list one pair or thread.
-fn list(world: &World<'_>, call: Whole) -> Said {
+fn list<A: Memory>(world: &World<A>, call: Whole) -> Said {
     match call {
         Whole::Contents => listed(world.contents(), 1, NoMemory),
         _ => listed(world.queue(2), 1, NoMemory),
@@ -178,25 +204,35 @@ fn list(world: &World<'_>, call: Whole) -> Said {
 }
 
 /// Looks at a world. A view may do with less memory than it asks for first.
-fn look(heap: &Heap, world: &mut World<'_>, call: Whole) -> Option<Seen> {
+fn look<A: Memory>(heap: &Heap, world: &mut World<A>, call: Whole) -> Option<Seen> {
     go(world, 0, 6);
     go(world, 1, 100);
     let before = heap.asked();
     let said = list(world, call);
     let behind = heap.asked();
-    let has_pair = list(world, Whole::Contents) == Said::Done;
-    let is_kept = has_pair && list(world, Whole::Queue) == Said::Done;
+    let has_pair = is_done(list(world, Whole::Contents));
+    let is_kept = has_pair && is_done(list(world, Whole::Queue));
     Seen::of(before, behind, said.may_fit(heap) && is_kept)
+}
+
+fn make_world<A: Memory>(heap: &Heap, alloc: A) -> Option<Seen> {
+    let (before, world) = world_of(heap, alloc, &[1, 2], HELD)?;
+    made(world, WorldNewFault::NoMemory).seen(heap, before, true)
+}
+
+fn with_world<A: Memory>(heap: &Heap, alloc: A, call: Whole) -> Option<Seen> {
+    match world_of(heap, alloc, &[1], HELD) {
+        Some((_, Ok(mut world))) => look(heap, &mut world, call),
+        _ => None,
+    }
 }
 
 impl<R: Drop> Case<R> for Whole {
     fn run(self, _rt: R, heap: &Heap) -> Option<Seen> {
-        let keys: &[u64] = if let Whole::New = self { &[1, 2] } else { &[1] };
-        let (before, world) = world_of(heap, keys, HELD)?;
-        if let Whole::New = self {
-            return made(world, WorldNewFault::NoMemory).seen(heap, before, true);
+        match self {
+            Whole::New => make_world(heap, heap),
+            _ => with_world(heap, heap, self),
         }
-        look(heap, &mut world.ok()?, self)
     }
 }
 

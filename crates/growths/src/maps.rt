@@ -1,10 +1,10 @@
 //! Calls on maps as data.
 
+use crate::memory::Memory;
 use crate::rows::{EACH, Map, On, PAIR, Rows, map_of};
 use dashmap_calls::{Answer, Call, Keyed, Many, Operator, Place, Try, Walk, make};
-use lock_api_raw::{MakeLock, RawRwLock};
+use dashmap_table::MapFault;
 use refusing_heap::{Heap, Line, Seen, refused_growth};
-use std::sync::Wait;
 
 /// A call on a map on which these were made before, and what it answers: where it is done; and where the first growth
 /// is refused, the second, .., and behind the last of these alike.
@@ -26,10 +26,7 @@ pub fn wanted<T: Copy>(done: T, refused: &[T], growth: u64) -> T {
 const KEYS: u64 = 64;
 
 /// How many pairs there are, and a number that tells of all of them.
-fn pairs_of<Q: RawRwLock>(map: &Map<'_, Q>, me: &mut Q::Party) -> (u64, u64)
-where
-    Q::Runtime: Wait,
-{
+fn pairs_of<T: Rows, A: Memory>(map: &Map<T, A>, me: &mut T::Party) -> (u64, u64) {
     let mut sum = 0u64;
     for key in 0..KEYS {
         sum = sum.wrapping_mul(31);
@@ -42,42 +39,40 @@ where
 
 /// Makes the call, and compares what stands: first that no shard is held, since who asks for one that is,
 /// waits.
-fn look<Q: RawRwLock, T: Rows + Drop>(
+fn look<T: Rows, A: Memory>(
     heap: &Heap,
     table: T,
-    map: &Map<'_, Q>,
-    me: &mut Q::Party,
+    map: &Map<T, A>,
+    me: &mut T::Party,
     call: OnMap<'_>,
-) -> Option<Seen>
-where
-    Q::Runtime: Wait,
-{
+) -> Option<Seen> {
     let OnMap(others, call, done, refused) = call;
     for other in others {
         let _answer = make(map, *other, me);
     }
-    let pairs = pairs_of(map, me);
+    let pairs = pairs_of::<T, A>(map, me);
     let before = heap.asked();
     let answer = make(map, call, me);
     let behind = heap.asked();
     let growth = refused_growth(heap, before);
     let is_so = table.are_free() && answer == wanted(done, refused, growth);
-    let is_kept = is_so && (growth == 0 || pairs_of(map, me) == pairs);
+    let is_kept = is_so && (growth == 0 || pairs_of::<T, A>(map, me) == pairs);
     Seen::of(before, behind, is_kept)
 }
 
 /// Makes the call on a new map.
-pub fn ask_map<Q: RawRwLock + MakeLock<T> + Drop, T: Rows + Drop>(
+pub fn ask_map<T: Rows, A: Memory>(
     heap: &Heap,
+    alloc: A,
     table: T,
-    me: &mut Q::Party,
+    me: &mut T::Party,
     call: OnMap<'_>,
-) -> Option<Seen>
-where
-    Q::Runtime: Wait,
-{
-    let map: Map<'_, Q> = map_of(heap, table).ok()?;
-    look(heap, table, &map, me, call)
+) -> Option<Seen> {
+    let map: Result<Map<T, A>, MapFault> = map_of(alloc, table);
+    match map {
+        Ok(map) => look(heap, table, &map, me, call),
+        Err(_) => None,
+    }
 }
 
 const NEW: &[Call] = &[];

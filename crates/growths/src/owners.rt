@@ -2,6 +2,7 @@
 //! key takes memory to be cloned.
 
 use crate::costly::Costly;
+use crate::memory::{Memory, is_done, listed};
 use crate::rows::{
     EACH, FROM, MIDDLE, Map, On, PAIR, Rows, SHARDS, TO, Team, count, map_of, pairs, put,
 };
@@ -12,10 +13,8 @@ use dashmap_parallel::{ParExtendFault, ParallelMap, par_extend_shared};
 use dashmap_plain::clones::CloneMap;
 use dashmap_plain::par_extend;
 use dashmap_table::{MapFault, NoMemory, SpreadState};
-use lock_api_raw::{MakeLock, RawRwLock, RawRwLockTimed};
-use refusing_heap::{Heap, Line, Said, Seen, listed, made, refused_growth};
+use refusing_heap::{Heap, Line, Said, Seen, made, refused_growth};
 use std::rt::Clock;
-use std::sync::Wait;
 use std::thread::Threads;
 use std::time::Instant;
 
@@ -23,7 +22,6 @@ use std::time::Instant;
 #[derive(Clone, Copy)]
 pub enum Owned {
     InsertMut,
-    InsertUntil,
     TryReserve,
     Clone,
     /// By two threads.
@@ -50,41 +48,39 @@ enum Came {
 const MORE: usize = 100;
 
 fn inserted(value: Answer, said: Result<Option<u64>, (u64, u64)>) -> Said {
-    let is_done = said == Ok(None) && value == Answer::Number(7);
-    Said::of(is_done, said == Err((5, 7)) && value == Answer::Absent)
+    match said {
+        Ok(old) => Said::of(old.is_none() && value == Answer::Number(7), false),
+        Err(back) => Said::of(false, back == (5, 7) && value == Answer::Absent),
+    }
 }
 
 /// What came of an extension, so many pairs of which are there: the pairs before the one that came back have to be
 /// there, and no others of it.
-fn extended<Q: RawRwLock>(
-    map: &Map<'_, Q>,
+fn extended<T: Rows, A: Memory>(
+    map: &Map<T, A>,
     put: u64,
     said: Result<(), (u64, u64)>,
-    me: &mut Q::Party,
-) -> Said
-where
-    Q::Runtime: Wait,
-{
+    me: &mut T::Party,
+) -> Said {
     let end = FROM.saturating_add(put);
-    let is_right = count(map, FROM, end, me) == put;
-    let is_back = said == Err((end, end)) && end < TO;
-    Said::of(is_right && said == Ok(()) && end == TO, is_right && is_back)
+    let is_right = count::<T, A>(map, FROM, end, me) == put;
+    match said {
+        Ok(()) => Said::of(is_right && end == TO, false),
+        Err(back) => Said::of(false, is_right && back == (end, end) && end < TO),
+    }
 }
 
 /// Compares what came of a call with what the map has: the keys that were there, and of an extension so many more. Of
 /// a shared one any may be there.
-fn compared<Q: RawRwLock>(map: &Map<'_, Q>, came: Came, me: &mut Q::Party) -> Said
-where
-    Q::Runtime: Wait,
-{
-    let put = count(map, FROM, TO, me);
-    let is_whole = map.len(me) as u64 == put.saturating_add(2) && count(map, 0, 2, me) == 2;
+fn compared<T: Rows, A: Memory>(map: &Map<T, A>, came: Came, me: &mut T::Party) -> Said {
+    let put = count::<T, A>(map, FROM, TO, me);
+    let is_whole = map.len(me) as u64 == put.saturating_add(2) && count::<T, A>(map, 0, 2, me) == 2;
     match came {
         Came::Inserted(said) => inserted(make(map, Call::Key(Keyed::View(5)), me), said),
-        Came::Extended(said) if is_whole => extended(map, put, said, me),
-        Came::Shared(said) if is_whole => {
-            let is_short = said == Err(ParExtendFault::NoMemory) && put < 20;
-            Said::of(said == Ok(()) && put == 20, is_short)
+        Came::Extended(said) if is_whole => extended::<T, A>(map, put, said, me),
+        Came::Shared(Ok(())) if is_whole => Said::of(put == 20, false),
+        Came::Shared(Err(fault)) if is_whole => {
+            Said::of(false, fault == ParExtendFault::NoMemory && put < 20)
         }
         Came::Other(said) if is_whole => said,
         _ => Said::Other,
@@ -93,10 +89,7 @@ where
 
 /// Asks for room, of which a shard takes two growths. Where a growth of the second is refused the first one keeps its
 /// room, and else no room is there.
-fn try_reserve<Q: RawRwLock>(heap: &Heap, map: &mut Map<'_, Q>, me: &mut Q::Party) -> Said
-where
-    Q::Runtime: Wait,
-{
+fn try_reserve<T: Rows, A: Memory>(heap: &Heap, map: &mut Map<T, A>, me: &mut T::Party) -> Said {
     let (room, before) = (map.capacity(me), heap.asked());
     let is_done = map.try_reserve(MORE).is_ok();
     let (now, growth) = (map.capacity(me), refused_growth(heap, before));
@@ -104,19 +97,19 @@ where
     Said::of(is_done && now >= 2 * MORE, !is_done && is_kept)
 }
 
-fn collect<Q: RawRwLock + Sync, R: Threads + Sync>(
-    heap: &Heap,
+fn collect<T: Rows, R: Threads + Sync, A: Memory>(
+    alloc: A,
     rt: &R,
-    map: &Map<'_, Q>,
-    tds: &mut [Q::Party],
+    map: &Map<T, A>,
+    tds: &mut [T::Party],
 ) -> Said
 where
-    Q::Runtime: Wait,
-    Q::Party: Send,
+    T::Lock: Sync,
+    T::Party: Send,
 {
     match map.par_iter(tds) {
         Ok(walk) => {
-            let list = walk.map_collect(rt, heap, |key: &u64, _: &u64| *key);
+            let list = walk.map_collect(rt, alloc, |key: &u64, _: &u64| *key);
             listed(list, 2, NoMemory)
         }
         Err(_) => Said::Other,
@@ -124,36 +117,34 @@ where
 }
 
 /// Makes a call that takes no thread but this one.
-fn make_call<Q: RawRwLock + MakeLock<T> + Drop, T: Copy + Drop>(
+fn make_call<T: Rows, A: Memory>(
     heap: &Heap,
     table: T,
-    map: &mut Map<'_, Q>,
-    me: &mut Q::Party,
+    map: &mut Map<T, A>,
+    me: &mut T::Party,
     call: Owned,
-) -> Came
-where
-    Q::Runtime: Wait,
-{
+) -> Came {
     match call {
         Owned::InsertMut => Came::Inserted(map.insert_mut(5, 7)),
-        Owned::TryReserve => Came::Other(try_reserve(heap, map, me)),
+        Owned::TryReserve => Came::Other(try_reserve::<T, A>(heap, map, me)),
         _ => Came::Other(made(CloneMap::clone(map, table, me), MapFault::NoMemory)),
     }
 }
 
 /// Makes an extension. Answers how many growths were asked for before, too.
-fn extend<'h, Q: RawRwLock + Sync, R: Threads + Sync>(
-    heap: &'h Heap,
+fn extend<T: Rows, R: Threads + Sync, A: Memory>(
+    heap: &Heap,
+    alloc: A,
     rt: &R,
-    map: &mut Map<'h, Q>,
-    tds: &mut [Q::Party],
+    map: &mut Map<T, A>,
+    tds: &mut [T::Party],
     call: Owned,
 ) -> Option<(u64, Came)>
 where
-    Q::Runtime: Wait,
-    Q::Party: Send,
+    T::Lock: Sync,
+    T::Party: Send,
 {
-    let pairs = pairs(heap)?;
+    let pairs = pairs(alloc)?;
     let before = heap.asked();
     let came = match call {
         Owned::Extend => Came::Extended(map.extend(pairs.into_iter())),
@@ -164,87 +155,128 @@ where
 }
 
 /// Inserts up to a moment that has come.
-fn insert_until<Q: RawRwLockTimed<Instant = Instant>, R: Clock>(
+fn insert_until<T: Rows, R: Clock, A: Memory>(
     rt: &R,
-    map: &Map<'_, Q>,
-    me: &mut Q::Party,
-    moment: Instant,
-) -> Came
-where
-    Q::Runtime: Wait,
-{
-    match map.insert_until(5, 7, moment, rt, me) {
+    map: &Map<T, A>,
+    me: &mut T::Party,
+) -> Option<Came> {
+    let moment = Instant::now(rt).ok()?;
+    Some(match map.insert_until(5, 7, moment, rt, me) {
         Ok(old) => Came::Inserted(Ok(old)),
         Err(UntilFault::NoMemory(pair)) => Came::Inserted(Err(pair)),
         Err(UntilFault::Locked(_)) => Came::Other(Said::Other),
+    })
+}
+
+/// Inserts into an empty map that is lent.
+fn ask_until<T: Rows, R: Clock, A: Memory>(
+    heap: &Heap,
+    rt: &R,
+    table: T,
+    map: &Map<T, A>,
+    me: &mut T::Party,
+) -> Option<Seen> {
+    let before = heap.asked();
+    let came = insert_until::<T, R, A>(rt, map, me)?;
+    let behind = heap.asked();
+    let stands = table.are_taken(2) && compared::<T, A>(map, came, me).fits(heap);
+    Seen::of(before, behind, stands)
+}
+
+/// Inserts into a new map, up to a moment that has come.
+pub fn insert_in_time<T: Rows, R: Clock, A: Memory>(
+    heap: &Heap,
+    alloc: A,
+    rt: &R,
+    table: T,
+    me: &mut T::Party,
+) -> Option<Seen> {
+    let map: Result<Map<T, A>, MapFault> = map_of(alloc, table);
+    match map {
+        Ok(map) => ask_until(heap, rt, table, &map, me),
+        Err(_) => None,
+    }
+}
+
+/// Makes the call. Answers how many growths were asked for before, too.
+fn make_any<T: Rows, R: Threads + Sync, A: Memory>(
+    heap: &Heap,
+    alloc: A,
+    rt: &R,
+    table: T,
+    map: &mut Map<T, A>,
+    team: &mut Team<T::Party>,
+    call: Owned,
+) -> Option<(u64, Came)>
+where
+    T::Lock: Sync,
+    T::Party: Send,
+{
+    let before = heap.asked();
+    match call {
+        Owned::Extend | Owned::ParExtend | Owned::ParExtendShared => {
+            extend::<T, R, A>(heap, alloc, rt, map, &mut team.others, call)
+        }
+        Owned::MapCollect => {
+            let said = collect::<T, R, A>(alloc, rt, map, &mut team.others);
+            Some((before, Came::Other(said)))
+        }
+        _ => Some((before, make_call(heap, table, map, &mut team.me, call))),
     }
 }
 
 /// Makes the call on an empty map that is lent, behind the insertions that it needs. What stands is looked at where no
 /// shard is held, since who asks for one that is waits.
-fn ask_on<
-    'h,
-    Q: RawRwLockTimed<Instant = Instant> + MakeLock<T> + Drop + Sync,
-    T: Rows + Drop,
-    R: Threads + Clock + Sync,
->(
-    heap: &'h Heap,
+fn ask_on<T: Rows, R: Threads + Sync, A: Memory>(
+    heap: &Heap,
+    alloc: A,
     rt: &R,
     table: T,
-    map: &mut Map<'h, Q>,
-    team: &mut Team<Q::Party>,
+    map: &mut Map<T, A>,
+    team: &mut Team<T::Party>,
     call: Owned,
 ) -> Option<Seen>
 where
-    Q::Runtime: Wait,
-    Q::Party: Send,
+    T::Lock: Sync,
+    T::Party: Send,
 {
-    let now = Instant::now(rt).ok()?;
-    let is_empty = matches!(call, Owned::InsertMut | Owned::InsertUntil);
-    put(map, if is_empty { 0 } else { 2 }, &mut team.me);
-    let before = heap.asked();
-    let (before, came) = match call {
-        Owned::Extend | Owned::ParExtend | Owned::ParExtendShared => {
-            extend(heap, rt, map, &mut team.others, call)?
-        }
-        Owned::InsertUntil => (before, insert_until(rt, map, &mut team.me, now)),
-        Owned::MapCollect => (
-            before,
-            Came::Other(collect(heap, rt, map, &mut team.others)),
-        ),
-        _ => (before, make_call(heap, table, map, &mut team.me, call)),
-    };
+    let is_empty = matches!(call, Owned::InsertMut);
+    put::<T, A>(map, if is_empty { 0 } else { 2 }, &mut team.me);
+    let (before, came) = make_any(heap, alloc, rt, table, map, team, call)?;
     let behind = heap.asked();
     let rows = if let Owned::Clone = call { 4 } else { 2 };
-    let stands = table.are_taken(rows) && compared(map, came, &mut team.me).fits(heap);
+    let stands = table.are_taken(rows) && compared::<T, A>(map, came, &mut team.me).fits(heap);
     Seen::of(before, behind, stands)
 }
 
 /// Makes the call on a new map.
-pub fn ask_owner<
-    Q: RawRwLockTimed<Instant = Instant> + MakeLock<T> + Drop + Sync,
-    T: Rows + Drop,
-    R: Threads + Clock + Sync,
->(heap: &Heap, rt: &R, table: T, team: &mut Team<Q::Party>, call: Owned) -> Option<Seen>
+pub fn ask_owner<T: Rows, R: Threads + Sync, A: Memory>(
+    heap: &Heap,
+    alloc: A,
+    rt: &R,
+    table: T,
+    team: &mut Team<T::Party>,
+    call: Owned,
+) -> Option<Seen>
 where
-    Q::Runtime: Wait,
-    Q::Party: Send,
+    T::Lock: Sync,
+    T::Party: Send,
 {
-    let mut map: Map<'_, Q> = map_of(heap, table).ok()?;
-    ask_on(heap, rt, table, &mut map, team, call)
+    let map: Result<Map<T, A>, MapFault> = map_of(alloc, table);
+    match map {
+        Ok(mut map) => ask_on(heap, alloc, rt, table, &mut map, team, call),
+        Err(_) => None,
+    }
 }
 
-type Entries<'h, Q> = DashMap<Costly<'h>, u64, SpreadState, Q, &'h Heap>;
+type Entries<'h, T, A> = DashMap<Costly<'h>, u64, SpreadState, <T as Rows>::Lock, A>;
 
 /// What came of an insertion of 7 at a place. A refused entry still has its key, of this number, and the value comes
 /// back.
-fn inserted_at<'h, Q: RawRwLock>(
-    entry: Entry<'_, '_, Costly<'h>, u64, Q, &'h Heap>,
+fn inserted_at<T: Rows, A: Memory>(
+    entry: Entry<'_, '_, Costly<'_>, u64, T::Lock, A>,
     number: u64,
-) -> Said
-where
-    Q::Runtime: Wait,
-{
+) -> Said {
     match entry.insert_entry(7) {
         Ok(entry) => Said::of(*entry.get() == 7, false),
         Err(back) => Said::of(false, back.1 == 7 && back.0.key().number() == number),
@@ -252,49 +284,52 @@ where
 }
 
 /// What came of an insertion of 7 at the place of a new key that stays there: it clones the key.
-fn enter<'h, Q: RawRwLock>(map: &Entries<'h, Q>, key: Costly<'h>, me: &mut Q::Party) -> Said
-where
-    Q::Runtime: Wait,
-{
+fn enter<'h, T: Rows, A: Memory>(
+    map: &Entries<'h, T, A>,
+    key: Costly<'h>,
+    me: &mut T::Party,
+) -> Said {
     let number = key.number();
     match map.entry(key, me) {
-        Ok(entry) => inserted_at(entry, number),
+        Ok(entry) => inserted_at::<T, A>(entry, number),
         Err(_key) => Said::Other,
     }
 }
 
 /// Makes the call on a map that has another key of the same shard, so there is room for one more.
-fn ask_entries<'h, Q: RawRwLock, T: Rows + Drop>(
+fn ask_entries<'h, T: Rows, A: Memory>(
     heap: &'h Heap,
     table: T,
-    map: &Entries<'h, Q>,
-    me: &mut Q::Party,
-) -> Option<Seen>
-where
-    Q::Runtime: Wait,
-{
-    map.insert(Costly::new(heap, 1), 0, me).ok()?;
+    map: &Entries<'h, T, A>,
+    me: &mut T::Party,
+) -> Option<Seen> {
+    let is_put = map.insert(Costly::new(heap, 1), 0, me).is_ok();
     let before = heap.asked();
-    let said = enter(map, Costly::new(heap, 3), me);
-    let length = if said == Said::Done { 2 } else { 1 };
-    said.seen(heap, before, table.are_free() && map.len(me) == length)
+    let said = enter::<T, A>(map, Costly::new(heap, 3), me);
+    let length = if is_done(said) { 2 } else { 1 };
+    said.seen(
+        heap,
+        before,
+        is_put && table.are_free() && map.len(me) == length,
+    )
 }
 
-pub fn insert_entry<Q: RawRwLock + MakeLock<T> + Drop, T: Rows + Drop>(
+pub fn insert_entry<T: Rows, A: Memory>(
     heap: &Heap,
+    alloc: A,
     table: T,
-    me: &mut Q::Party,
-) -> Option<Seen>
-where
-    Q::Runtime: Wait,
-{
-    let map: Entries<'_, Q> = DashMap::with_hasher_and_shard_amount(
-        heap,
+    me: &mut T::Party,
+) -> Option<Seen> {
+    let map: Result<Entries<'_, T, A>, MapFault> = DashMap::with_hasher_and_shard_amount(
+        alloc,
         SpreadState,
         SHARDS,
         table,
-    ).ok()?;
-    ask_entries(heap, table, &map, me)
+    );
+    match map {
+        Ok(map) => ask_entries(heap, table, &map, me),
+        Err(_) => None,
+    }
 }
 
 const ROOM: &str = "each pair; room of earlier shards";
@@ -318,7 +353,7 @@ const CALL: &str = "entry(..).insert_entry";
 pub const LINES: &[Line<On<'static>>] = &[
     (CALL, On::InsertEntry, STANDS),
     ("insert_mut", On::Owned(Owned::InsertMut), PAIR),
-    ("insert_until", On::Owned(Owned::InsertUntil), PAIR),
+    ("insert_until", On::InsertUntil, PAIR),
     ("try_reserve, two shards", RESERVED, ROOM),
     ("extend, 20 pairs", On::Owned(Owned::Extend), MIDDLE),
     ("par_extend, 20 pairs", BY_ALL, MIDDLE),

@@ -1,23 +1,22 @@
 //! Recorded maps: their calls, and the gathering of what was written down.
 
+use crate::memory::{Memory, is_done, listed};
 use crate::rows::{On, Rows, SHARDS};
 use dashmap_record::{
     Call, CallReply, Caller, Entered, GatherFault, RecordFault, Recorded, gather,
 };
 use dashmap_table::MapFault;
-use lock_api_raw::{MakeLock, RawRwLock};
-use refusing_heap::{Heap, Line, Said, Seen, listed, made};
+use refusing_heap::{Heap, Line, Said, Seen, made};
 use std::hash::{BuildHasherDefault, FoldHasher};
-use std::sync::Wait;
 
 type Fold = BuildHasherDefault<FoldHasher>;
 
-type Small<'h, Q> = Recorded<u64, u64, Fold, Q, &'h Heap>;
+type Small<T, A> = Recorded<u64, u64, Fold, <T as Rows>::Lock, A>;
 
-type Me<'h> = Caller<u64, u64, &'h Heap>;
+type Me<A> = Caller<u64, u64, A>;
 
 /// What was written down by one, or of one shard.
-type List<'h> = Vec<Entered<u64, u64>, &'h Heap>;
+type List<A> = Vec<Entered<u64, u64>, A>;
 
 type Reply = Result<CallReply<u64, u64>, RecordFault>;
 
@@ -26,41 +25,54 @@ type Reply = Result<CallReply<u64, u64>, RecordFault>;
 pub struct OnRecord<'a>(&'a [Call<u64, u64>], Call<u64, u64>, CallReply<u64, u64>);
 
 /// The reply of a value that may be there.
-fn of_value(said: Option<u64>) -> CallReply<u64, u64> {
+fn of_value(said: Result<Option<u64>, RecordFault>) -> Reply {
     match said {
-        Some(value) => CallReply::Value(value),
-        None => CallReply::None,
+        Ok(Some(value)) => Ok(CallReply::Value(value)),
+        Ok(None) => Ok(CallReply::None),
+        Err(fault) => Err(fault),
+    }
+}
+
+fn of_flag(said: Result<bool, RecordFault>) -> Reply {
+    match said {
+        Ok(flag) => Ok(CallReply::Flag(flag)),
+        Err(fault) => Err(fault),
+    }
+}
+
+fn of_pair(said: Result<Option<(u64, u64)>, RecordFault>) -> Reply {
+    match said {
+        Ok(Some((key, value))) => Ok(CallReply::Pair(key, value)),
+        Ok(None) => Ok(CallReply::None),
+        Err(fault) => Err(fault),
     }
 }
 
 /// Makes a call, and answers what was written down of it.
-fn make<'h, Q: RawRwLock>(
-    map: &Small<'h, Q>,
+fn make<T: Rows, A: Memory>(
+    map: &Small<T, A>,
     call: Call<u64, u64>,
-    me: &mut Me<'h>,
-    td: &mut Q::Party,
-) -> Reply
-where
-    Q::Runtime: Wait,
-{
+    me: &mut Me<A>,
+    td: &mut T::Party,
+) -> Reply {
     match call {
-        Call::Insert(key, value) => Ok(of_value(map.insert(key, value, me, td)?)),
-        Call::GetCopied(key) => Ok(of_value(map.get_copied(&key, me, td)?)),
-        Call::ReplaceIf(key, old, new) => {
-            Ok(CallReply::Flag(map.replace_if(&key, old, new, me, td)?))
-        }
-        Call::Remove(key) => match map.remove(&key, me, td)? {
-            Some((key, value)) => Ok(CallReply::Pair(key, value)),
-            None => Ok(CallReply::None),
-        },
+        Call::Insert(key, value) => of_value(map.insert(key, value, me, td)),
+        Call::GetCopied(key) => of_value(map.get_copied(&key, me, td)),
+        Call::ReplaceIf(key, old, new) => of_flag(map.replace_if(&key, old, new, me, td)),
+        Call::Remove(key) => of_pair(map.remove(&key, me, td)),
+    }
+}
+
+/// What came of a call that is to have this reply.
+fn said_of(reply: Reply, done: CallReply<u64, u64>) -> Said {
+    match reply {
+        Ok(reply) => Said::of(reply == done, false),
+        Err(fault) => Said::of(false, fault == RecordFault::NoMemory),
     }
 }
 
 /// How many entries the histories of all shards have.
-fn entries<Q: RawRwLock>(map: &Small<'_, Q>, td: &mut Q::Party) -> usize
-where
-    Q::Runtime: Wait,
-{
+fn entries<T: Rows, A: Memory>(map: &Small<T, A>, td: &mut T::Party) -> usize {
     let mut count = 0usize;
     for shard in 0..SHARDS {
         let length = map.look(shard, |entries| entries.len(), td);
@@ -69,126 +81,132 @@ where
     count
 }
 
-fn make_all<'h, Q: RawRwLock>(
-    map: &Small<'h, Q>,
+/// Makes calls, and answers whether each was done.
+fn make_all<T: Rows, A: Memory>(
+    map: &Small<T, A>,
     calls: &[Call<u64, u64>],
-    me: &mut Me<'h>,
-    td: &mut Q::Party,
-) -> Option<()>
-where
-    Q::Runtime: Wait,
-{
+    me: &mut Me<A>,
+    td: &mut T::Party,
+) -> bool {
+    let mut are_done = true;
     for call in calls {
-        make(map, *call, me, td).ok()?;
+        are_done &= make::<T, A>(map, *call, me, td).is_ok();
     }
-    Some(())
+    are_done
+}
+
+/// Whether a refused call has left no entry, of so many before and this last one, and is done when it is made again.
+fn is_kept<T: Rows, A: Memory>(
+    map: &Small<T, A>,
+    (last, count): (u64, usize),
+    me: &mut Me<A>,
+    td: &mut T::Party,
+    call: OnRecord<'_>,
+) -> bool {
+    let has_none = me.last() == last && entries::<T, A>(map, td) == count;
+    has_none && is_done(said_of(make::<T, A>(map, call.1, me, td), call.2))
 }
 
 /// Makes the call. A refused one is made again, and is answered then as if it hadn't been made before. What stands is
 /// looked at where no shard is held, since who asks for one that is waits.
-fn ask<'h, Q: RawRwLock, T: Rows + Drop>(
-    heap: &'h Heap,
+fn ask<T: Rows, A: Memory>(
+    heap: &Heap,
     table: T,
-    map: &Small<'h, Q>,
-    me: &mut Me<'h>,
-    td: &mut Q::Party,
+    map: &Small<T, A>,
+    me: &mut Me<A>,
+    td: &mut T::Party,
     call: OnRecord<'_>,
-) -> Option<Seen>
-where
-    Q::Runtime: Wait,
-{
-    let OnRecord(others, call, done) = call;
-    make_all(map, others, me, td)?;
-    let (last, count) = (me.last(), entries(map, td));
+) -> Option<Seen> {
+    if !make_all::<T, A>(map, call.0, me, td) {
+        return None;
+    }
+    let (last, count) = (me.last(), entries::<T, A>(map, td));
     let before = heap.asked();
-    let said = make(map, call, me, td);
+    let said = said_of(make::<T, A>(map, call.1, me, td), call.2);
     let behind = heap.asked();
-    let is_short = table.are_free() && said == Err(RecordFault::NoMemory);
-    let is_kept = is_short && me.last() == last && entries(map, td) == count;
-    let is_made = is_kept && make(map, call, me, td) == Ok(done);
-    let stood = table.are_free() && Said::of(said == Ok(done), is_made).fits(heap);
-    let is_right = stood && entries(map, td) == count.wrapping_add(1);
-    Seen::of(before, behind, is_right)
+    let stood = table.are_free() && said.fits(heap);
+    let is_made = is_done(said) || (stood && is_kept::<T, A>(map, (last, count), me, td, call));
+    let stands = stood && is_made && table.are_free();
+    Seen::of(
+        before,
+        behind,
+        stands && entries::<T, A>(map, td) == count.wrapping_add(1),
+    )
 }
 
-/// Gathers what was written down by the only caller. Answers how many growths were asked for before, too.
-fn gather_all<'h>(
-    heap: &'h Heap,
-    histories: Vec<List<'h>, &'h Heap>,
-    log: List<'h>,
+/// Gathers these entries. Answers how many growths were asked for before, too.
+fn gather_lists<A: Memory>(
+    heap: &Heap,
+    alloc: A,
+    histories: Vec<List<A>, A>,
+    logs: Vec<List<A>, A>,
+    count: usize,
+) -> (u64, Said) {
+    let before = heap.asked();
+    let list = gather(alloc, histories, logs, &Fold::new());
+    (before, listed(list, count, GatherFault::NoMemory))
+}
+
+/// Gathers what was written down by the only caller.
+fn gather_all<T: Rows, A: Memory>(
+    heap: &Heap,
+    alloc: A,
+    map: Small<T, A>,
+    me: Me<A>,
     count: usize,
 ) -> Option<(u64, Said)> {
-    let mut logs = Vec::new(heap);
-    logs.push(log).ok()?;
-    let before = heap.asked();
-    let list = gather(heap, histories, logs, &Fold::new());
-    Some((before, listed(list, count, GatherFault::NoMemory)))
+    let mut logs = Vec::new(alloc);
+    logs.push(me.log()).ok()?;
+    Some(gather_lists(heap, alloc, map.histories(), logs, count))
 }
 
 /// A new recorded map, and its only caller.
-fn recorded<'h, Q: RawRwLock + MakeLock<T> + Drop, T: Rows + Drop>(
-    heap: &'h Heap,
-    table: T,
-) -> Option<(Small<'h, Q>, Me<'h>)> {
-    let (map, mut callers) = Recorded::new(heap, SHARDS, Fold::new(), 1, table).ok()?;
+fn recorded<T: Rows, A: Memory>(alloc: A, table: T) -> Option<(Small<T, A>, Me<A>)> {
+    let (map, mut callers) = Recorded::new(alloc, SHARDS, Fold::new(), 1, table).ok()?;
     Some((map, callers.pop()?))
 }
 
 /// Makes the call on a new recorded map, and looks at all that was written down.
-pub fn with_record<Q: RawRwLock + MakeLock<T> + Drop, T: Rows + Drop>(
+pub fn with_record<T: Rows, A: Memory>(
     heap: &Heap,
+    alloc: A,
     table: T,
-    td: &mut Q::Party,
+    td: &mut T::Party,
     call: OnRecord<'_>,
-) -> Option<Seen>
-where
-    Q::Runtime: Wait,
-{
-    let (map, mut me): (Small<'_, Q>, Me<'_>) = recorded(heap, table)?;
-    let seen = ask(heap, table, &map, &mut me, td, call)?;
-    let count = call.0.len().wrapping_add(1);
-    let (_, said) = gather_all(heap, map.histories(), me.log(), count)?;
-    seen.and(said == Said::Done)
+) -> Option<Seen> {
+    let (map, mut me): (Small<T, A>, Me<A>) = recorded::<T, A>(alloc, table)?;
+    let seen = ask::<T, A>(heap, table, &map, &mut me, td, call);
+    let gathered = gather_all::<T, A>(heap, alloc, map, me, call.0.len().wrapping_add(1));
+    seen?.and(is_done(gathered?.1))
 }
 
 /// Makes twelve calls.
-fn make_twelve<'h, Q: RawRwLock>(
-    map: &Small<'h, Q>,
-    me: &mut Me<'h>,
-    td: &mut Q::Party,
-) -> Option<()>
-where
-    Q::Runtime: Wait,
-{
+fn make_twelve<T: Rows, A: Memory>(map: &Small<T, A>, me: &mut Me<A>, td: &mut T::Party) -> bool {
+    let mut are_done = true;
     for key in 0..6 {
-        make_all(map, &[Call::Insert(key, key), Call::GetCopied(key)], me, td)?;
+        are_done &= make_all::<T, A>(map, &[Call::Insert(key, key), Call::GetCopied(key)], me, td);
     }
-    Some(())
+    are_done
 }
 
 /// Makes twelve calls, and gathers what was written down of them.
-pub fn gather_twelve<Q: RawRwLock + MakeLock<T> + Drop, T: Rows + Drop>(
+pub fn gather_twelve<T: Rows, A: Memory>(
     heap: &Heap,
+    alloc: A,
     table: T,
-    td: &mut Q::Party,
-) -> Option<Seen>
-where
-    Q::Runtime: Wait,
-{
-    let (map, mut me): (Small<'_, Q>, Me<'_>) = recorded(heap, table)?;
-    make_twelve(&map, &mut me, td)?;
-    let (before, said) = gather_all(heap, map.histories(), me.log(), 12)?;
-    said.seen(heap, before, true)
+    td: &mut T::Party,
+) -> Option<Seen> {
+    let (map, mut me): (Small<T, A>, Me<A>) = recorded::<T, A>(alloc, table)?;
+    let are_done = make_twelve::<T, A>(&map, &mut me, td);
+    let (before, said) = gather_all::<T, A>(heap, alloc, map, me, 12)?;
+    said.seen(heap, before, are_done)
 }
 
 /// Makes a recorded map. The rows that it took stay used, of a refused one too.
-pub fn make_record<Q: RawRwLock + MakeLock<T> + Drop, T: Rows + Drop>(
-    heap: &Heap,
-    table: T,
-) -> Option<Seen> {
+pub fn make_record<T: Rows, A: Memory>(heap: &Heap, alloc: A, table: T) -> Option<Seen> {
     let before = heap.asked();
-    let map: Result<(Small<'_, Q>, Vec<Me<'_>, &Heap>), MapFault> = Recorded::new(
-        heap,
+    let map: Result<(Small<T, A>, Vec<Me<A>, A>), MapFault> = Recorded::new(
+        alloc,
         SHARDS,
         Fold::new(),
         2,

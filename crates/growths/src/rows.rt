@@ -3,14 +3,15 @@
 use crate::forms::{Viewed, collect_all, with_view};
 use crate::made::{Make, make_map, make_set};
 use crate::maps::{OnMap, ask_map};
-use crate::owners::{Owned, ask_owner, insert_entry};
+use crate::memory::Memory;
+use crate::owners::{Owned, ask_owner, insert_entry, insert_in_time};
 use crate::records::{OnRecord, gather_twelve, make_record, with_record};
 use crate::sets::{OnSet, with_set};
 use dashmap_calls::{Answer, Call, Many, Numbers, make as answer};
 use dashmap_map::DashMap;
 use dashmap_table::{MapFault, SpreadState};
-use lock_api_raw::{MakeLock, RawRwLock, RawRwLockTimed};
-use parking_lot_core::ParkingLot;
+use lock_api_raw::{MakeLock, RawRwLockTimed};
+use parking_lot_core::{ParkingLot, ThreadData};
 use parking_lot_rwlock::{self as running, LockTable};
 use refusing_heap::{Heap, Line, Refusal, RefusingHeap, Seen, Wrong, print_line};
 use std::alloc::{Allocator, Global};
@@ -25,7 +26,7 @@ type Table<'l, R> = LockTable<'l, R>;
 /// The lock of a shard.
 type Row<'t, 'l, R> = running::RawRwLock<'t, 'l, R, 0, Global>;
 
-pub type Map<'h, Q> = Numbers<SpreadState, Q, &'h Heap>;
+pub type Map<T, A> = Numbers<SpreadState, <T as Rows>::Lock, A>;
 
 const ROWS: usize = 16;
 
@@ -56,6 +57,7 @@ pub enum On<'a> {
     Owned(Owned),
     /// Of an entry whose key is a text.
     InsertEntry,
+    InsertUntil,
     /// `map_collect` of a map that goes.
     Collect,
     View(Viewed),
@@ -82,26 +84,17 @@ pub fn keys<A: Allocator>(alloc: A) -> Option<Vec<u64, A>> {
     Some(keys)
 }
 
-pub fn map_of<'h, Q: RawRwLock + MakeLock<T> + Drop, T: Copy + Drop>(
-    heap: &'h Heap,
-    table: T,
-) -> Result<Map<'h, Q>, MapFault> {
-    DashMap::with_hasher_and_shard_amount(heap, SpreadState, SHARDS, table)
+pub fn map_of<T: Rows, A: Memory>(alloc: A, table: T) -> Result<Map<T, A>, MapFault> {
+    DashMap::with_hasher_and_shard_amount(alloc, SpreadState, SHARDS, table)
 }
 
 /// Puts in so many of the keys 0, 1, .., each with itself.
-pub fn put<Q: RawRwLock>(map: &Map<'_, Q>, keys: u64, me: &mut Q::Party)
-where
-    Q::Runtime: Wait,
-{
+pub fn put<T: Rows, A: Memory>(map: &Map<T, A>, keys: u64, me: &mut T::Party) {
     let _all = answer(map, Call::Many(Many::Insert(0, keys, 0)), me);
 }
 
 /// How many of the keys from one number to below another are there, each with itself.
-pub fn count<Q: RawRwLock>(map: &Map<'_, Q>, from: u64, to: u64, me: &mut Q::Party) -> u64
-where
-    Q::Runtime: Wait,
-{
+pub fn count<T: Rows, A: Memory>(map: &Map<T, A>, from: u64, to: u64, me: &mut T::Party) -> u64 {
     match answer(map, Call::Many(Many::View(from, to, 0)), me) {
         Answer::Number(count) => count,
         _ => 0,
@@ -109,9 +102,17 @@ where
 }
 
 /// A table of locks whose rows are looked at.
-pub trait Rows: Copy {
+pub trait Rows: Copy + Drop {
+    /// What a lock waits with.
+    type Runtime: Wait;
+
+    /// What a thread lends to a lock.
+    type Party;
+
     /// The lock of a row.
-    type Lock: RawRwLock;
+    type Lock: RawRwLockTimed<Instant = Instant, Runtime = Self::Runtime, Party = Self::Party>
+        + MakeLock<Self>
+        + Drop;
 
     /// Whether each word is 0, so nobody holds a shard or waits for one.
     fn are_free(self) -> bool;
@@ -120,7 +121,11 @@ pub trait Rows: Copy {
     fn are_taken(self, rows: usize) -> bool;
 }
 
-impl<'t, 'l, R> Rows for &'t Table<'l, R> {
+impl<'t, 'l, R: Wait> Rows for &'t Table<'l, R> {
+    type Runtime = R;
+
+    type Party = ThreadData;
+
     type Lock = Row<'t, 'l, R>;
 
     fn are_free(self) -> bool {
@@ -139,47 +144,108 @@ impl<'t, 'l, R> Rows for &'t Table<'l, R> {
     }
 }
 
-/// Makes a call over any table of locks. What owns a map names no lock, since that is ten times as dear to prove.
-fn ask<T: Rows + Drop, R: Threads + Clock + Sync>(
+/// Makes a call over any table of locks. What owns a map names neither lock nor heap, since that is ten times as dear
+/// to prove.
+fn ask<T: Rows, R: Threads + Clock + Sync, A: Memory>(
     heap: &Heap,
+    alloc: A,
     rt: &R,
     table: T,
-    team: &mut Team<<T::Lock as RawRwLock>::Party>,
+    team: &mut Team<T::Party>,
     call: On<'_>,
 ) -> Option<Seen>
 where
-    T::Lock: RawRwLockTimed<Instant = Instant> + MakeLock<T> + Drop + Sync,
-    <T::Lock as RawRwLock>::Runtime: Wait + RandomSource,
-    <T::Lock as RawRwLock>::Party: Send,
+    T::Runtime: RandomSource,
 {
     match call {
-        On::Make(call) => make_map::<T::Lock, T>(heap, table, call),
-        On::MakeSet(call) => make_set::<T::Lock, T>(heap, table, call),
-        On::InsertEntry => insert_entry::<T::Lock, T>(heap, table, &mut team.me),
-        On::Collect => collect_all::<T::Lock, T, R>(heap, rt, table, &mut team.me),
-        On::View(call) => with_view::<T::Lock, T, R>(heap, rt, table, &mut team.me, call),
-        On::Set(call) => with_set::<T::Lock, T, R>(heap, rt, table, team, call),
-        On::MakeRecord => make_record::<T::Lock, T>(heap, table),
-        On::Gather => gather_twelve::<T::Lock, T>(heap, table, &mut team.me),
-        On::Record(call) => with_record::<T::Lock, T>(heap, table, &mut team.me, call),
-        On::Map(call) => ask_map::<T::Lock, T>(heap, table, &mut team.me, call),
-        On::Owned(call) => ask_owner::<T::Lock, T, R>(heap, rt, table, team, call),
+        On::Make(call) => make_map(heap, alloc, table, call),
+        On::MakeSet(call) => make_set(heap, alloc, table, call),
+        On::InsertEntry => insert_entry(heap, alloc, table, &mut team.me),
+        On::Collect => collect_all(heap, alloc, rt, table, &mut team.me),
+        On::View(call) => with_view(heap, alloc, rt, table, &mut team.me, call),
+        On::MakeRecord => make_record(heap, alloc, table),
+        On::Gather => gather_twelve(heap, alloc, table, &mut team.me),
+        On::Record(call) => with_record(heap, alloc, table, &mut team.me, call),
+        On::Map(call) => ask_map(heap, alloc, table, &mut team.me, call),
+        On::InsertUntil => insert_in_time(heap, alloc, rt, table, &mut team.me),
+        On::Owned(_) | On::Set(_) => None,
     }
+}
+
+/// Makes a call of which some forms share their locks with other threads.
+fn share<T: Rows, R: Threads + Sync, A: Memory>(
+    heap: &Heap,
+    alloc: A,
+    rt: &R,
+    table: T,
+    team: &mut Team<T::Party>,
+    call: On<'_>,
+) -> Option<Seen>
+where
+    T::Lock: Sync,
+    T::Party: Send,
+{
+    match call {
+        On::Set(call) => with_set(heap, alloc, rt, table, team, call),
+        On::Owned(call) => ask_owner(heap, alloc, rt, table, team, call),
+        _ => None,
+    }
+}
+
+/// Registers one more thread.
+fn add<R: Wait>(lot: &ParkingLot<R>, others: &mut Vec<ThreadData>) -> bool {
+    match lot.thread_data() {
+        Ok(other) => others.push(other).is_ok(),
+        Err(_) => false,
+    }
+}
+
+/// Names the lock and the memory.
+fn cross<R: Wait + Threads + Clock + RandomSource + Sync>(
+    heap: &Heap,
+    table: &Table<'_, R>,
+    team: &mut Team<ThreadData>,
+    call: On<'_>,
+) -> Option<Seen> {
+    ask(heap, heap, table.lot().runtime(), table, team, call)
+}
+
+/// The same. That the lock may be shared is found by a search, which ends in time with no more bounds than these.
+fn cross_shared<R: Wait + Threads + Sync>(
+    heap: &Heap,
+    table: &Table<'_, R>,
+    team: &mut Team<ThreadData>,
+    call: On<'_>,
+) -> Option<Seen> {
+    share(heap, heap, table.lot().runtime(), table, team, call)
 }
 
 /// Makes a call over a table, by a thread or two others.
 fn over<R: Wait + Threads + Clock + RandomSource + Sync + Send>(
     heap: &Heap,
     table: &Table<'_, R>,
+    me: ThreadData,
     call: On<'_>,
 ) -> Option<Seen> {
-    let lot = table.lot();
-    let me = lot.thread_data().ok()?;
-    let others = Vec::new(*heap.inner());
+    let mut others = Vec::new(*heap.inner());
+    let are_two = add(table.lot(), &mut others) && add(table.lot(), &mut others);
     let mut team = Team { me, others };
-    team.others.push(lot.thread_data().ok()?).ok()?;
-    team.others.push(lot.thread_data().ok()?).ok()?;
-    ask(heap, lot.runtime(), table, &mut team, call)
+    let seen = match call {
+        On::Owned(_) | On::Set(_) => cross_shared(heap, table, &mut team, call),
+        _ => cross(heap, table, &mut team, call),
+    };
+    seen?.and(are_two)
+}
+
+fn with_table<R: Wait + Threads + Clock + RandomSource + Sync + Send>(
+    heap: &Heap,
+    table: &Table<'_, R>,
+    call: On<'_>,
+) -> Option<Seen> {
+    match table.lot().thread_data() {
+        Ok(me) => over(heap, table, me, call),
+        Err(_) => None,
+    }
 }
 
 fn run<R: Wait + Threads + Clock + RandomSource + Sync + Send + Copy + Drop>(
@@ -189,7 +255,21 @@ fn run<R: Wait + Threads + Clock + RandomSource + Sync + Send + Copy + Drop>(
 ) -> Option<Seen> {
     let lot = ParkingLot::new(rt, *heap.inner(), 3, 7).ok()?;
     let table = LockTable::new(*heap.inner(), &lot, ROWS).ok()?;
-    over(heap, &table, call)
+    with_table(heap, &table, call)
+}
+
+/// Makes the call in memory of this refusal. Answers how many growths were refused, too.
+fn run_under<R: Wait + Threads + Clock + RandomSource + Sync + Send + Copy + Drop>(
+    rt: R,
+    alloc: Global,
+    refusal: Refusal,
+    call: On<'_>,
+) -> Option<(Seen, u64)> {
+    let heap = RefusingHeap::new(alloc, refusal);
+    match run(rt, &heap, call) {
+        Some(seen) => Some((seen, heap.refused())),
+        None => None,
+    }
 }
 
 /// As `make_in_turn`. These calls are no `Case`, since what some send to threads rests on bounds that a case hasn't.
@@ -198,17 +278,17 @@ fn run_in_turn<R: Wait + Threads + Clock + RandomSource + Sync + Send + Copy + D
     alloc: Global,
     call: On<'_>,
 ) -> Result<u64, Wrong> {
-    let seen = run(rt, &RefusingHeap::new(alloc, Refusal::Never), call).ok_or(Wrong::Unprepared)?;
+    let (seen, _) = run_under(rt, alloc, Refusal::Never, call).ok_or(Wrong::Unprepared)?;
     if !seen.stood {
         return Err(Wrong::Ample);
     }
     let growths = seen.behind.saturating_sub(seen.before);
     for growth in 0..growths {
         let number = seen.before.saturating_add(growth).saturating_add(1);
-        let heap = RefusingHeap::new(alloc, Refusal::Once(number));
-        let stood = run(rt, &heap, call).ok_or(Wrong::Unprepared)?.stood;
-        if !stood || heap.refused() != 1 {
-            return Err(Wrong::Refused(growth.saturating_add(1)));
+        match run_under(rt, alloc, Refusal::Once(number), call) {
+            Some((seen, 1)) if seen.stood => {}
+            Some(_) => return Err(Wrong::Refused(growth.saturating_add(1))),
+            None => return Err(Wrong::Unprepared),
         }
     }
     Ok(growths)

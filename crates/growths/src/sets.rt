@@ -1,15 +1,14 @@
 //! Sets: their calls, their owner's calls and their parallel forms.
 
+use crate::memory::{Memory, listed};
 use crate::rows::{FROM, On, Rows, TO, Team, keys};
 use dashmap::set::DashSet;
 use dashmap_parallel::ParExtendFault;
 use dashmap_table::{MapFault, NoMemory, SpreadState};
-use lock_api_raw::{MakeLock, RawRwLock};
-use refusing_heap::{Heap, Line, Said, Seen, listed, made};
-use std::sync::Wait;
+use refusing_heap::{Heap, Line, Said, Seen, made};
 use std::thread::Threads;
 
-type Set<'h, Q> = DashSet<u64, SpreadState, Q, &'h Heap>;
+type Set<T, A> = DashSet<u64, SpreadState, <T as Rows>::Lock, A>;
 
 /// A call on a set of four shards that is empty, or has the keys 0 and 1.
 #[derive(Clone, Copy)]
@@ -41,10 +40,7 @@ enum Came {
     Other(Said),
 }
 
-fn count<Q: RawRwLock>(set: &Set<'_, Q>, from: u64, to: u64, me: &mut Q::Party) -> u64
-where
-    Q::Runtime: Wait,
-{
+fn count<T: Rows, A: Memory>(set: &Set<T, A>, from: u64, to: u64, me: &mut T::Party) -> u64 {
     let mut count = 0u64;
     for key in from..to {
         if set.contains(&key, me) {
@@ -56,20 +52,18 @@ where
 
 /// Compares what came of a call with what the set has: of an extension the keys before the one that came back, and no
 /// others of it.
-fn compared<Q: RawRwLock>(set: &Set<'_, Q>, came: Came, me: &mut Q::Party) -> Said
-where
-    Q::Runtime: Wait,
-{
-    let put = count(set, FROM, TO, me);
+fn compared<T: Rows, A: Memory>(set: &Set<T, A>, came: Came, me: &mut T::Party) -> Said {
+    let put = count::<T, A>(set, FROM, TO, me);
     match came {
-        Came::Inserted(said) => match set.contains(&5, me) {
-            true => Said::of(said == Ok(true), false),
-            false => Said::of(false, said == Err(5)),
-        },
+        Came::Inserted(Ok(is_new)) => Said::of(is_new && set.contains(&5, me), false),
+        Came::Inserted(Err(back)) => Said::of(false, back == 5 && !set.contains(&5, me)),
         Came::Extended(Ok(())) | Came::Shared(Ok(())) => Said::of(put == 20, false),
         Came::Extended(Err(back)) => {
             let before = back.saturating_sub(FROM);
-            Said::of(false, put == before && count(set, FROM, back, me) == before)
+            Said::of(
+                false,
+                put == before && count::<T, A>(set, FROM, back, me) == before,
+            )
         }
         Came::Shared(Err(fault)) => Said::of(false, fault == ParExtendFault::NoMemory && put < 20),
         Came::Other(said) => said,
@@ -77,10 +71,7 @@ where
 }
 
 /// What came of a walk over two keys. It asks for room at each shard, also at those that have no key.
-fn walked<Q: RawRwLock>(set: &Set<'_, Q>, me: &mut Q::Party) -> Said
-where
-    Q::Runtime: Wait,
-{
+fn walked<T: Rows, A: Memory>(set: &Set<T, A>, me: &mut T::Party) -> Said {
     let (mut met, mut refused) = (0u64, 0u64);
     let walk = {
         let me = &mut *me;
@@ -95,19 +86,19 @@ where
     Said::of(met == 2 && refused == 0, met <= 2 && refused == 1)
 }
 
-fn collect<Q: RawRwLock + Sync, R: Threads + Sync>(
-    heap: &Heap,
+fn collect<T: Rows, R: Threads + Sync, A: Memory>(
+    alloc: A,
     rt: &R,
-    set: &Set<'_, Q>,
-    tds: &mut [Q::Party],
+    set: &Set<T, A>,
+    tds: &mut [T::Party],
 ) -> Said
 where
-    Q::Runtime: Wait,
-    Q::Party: Send,
+    T::Lock: Sync,
+    T::Party: Send,
 {
     match set.par_iter(tds) {
         Ok(walk) => {
-            let list = walk.map_collect(rt, heap, |key: &u64| *key);
+            let list = walk.map_collect(rt, alloc, |key: &u64| *key);
             listed(list, 2, NoMemory)
         }
         Err(_) => Said::Other,
@@ -115,37 +106,35 @@ where
 }
 
 /// Makes a call that takes no thread but this one.
-fn make_call<Q: RawRwLock + MakeLock<T> + Drop, T: Copy + Drop>(
+fn make_call<T: Rows, A: Memory>(
     table: T,
-    set: &mut Set<'_, Q>,
-    me: &mut Q::Party,
+    set: &mut Set<T, A>,
+    me: &mut T::Party,
     call: OnSet,
-) -> Came
-where
-    Q::Runtime: Wait,
-{
+) -> Came {
     match call {
         OnSet::Insert => Came::Inserted(set.insert(5, me)),
         OnSet::InsertMut => Came::Inserted(set.insert_mut(5)),
-        OnSet::Iter => Came::Other(walked(set, me)),
+        OnSet::Iter => Came::Other(walked::<T, A>(set, me)),
         OnSet::Clone => Came::Other(made(set.clone(table, me), MapFault::NoMemory)),
         _ => Came::Other(made(set.shrink_to_fit(me), NoMemory)),
     }
 }
 
 /// Makes an extension. Answers how many growths were asked for before, too.
-fn extend<'h, Q: RawRwLock + Sync, R: Threads + Sync>(
-    heap: &'h Heap,
+fn extend<T: Rows, R: Threads + Sync, A: Memory>(
+    heap: &Heap,
+    alloc: A,
     rt: &R,
-    set: &mut Set<'h, Q>,
-    tds: &mut [Q::Party],
+    set: &mut Set<T, A>,
+    tds: &mut [T::Party],
     call: OnSet,
 ) -> Option<(u64, Came)>
 where
-    Q::Runtime: Wait,
-    Q::Party: Send,
+    T::Lock: Sync,
+    T::Party: Send,
 {
-    let keys = keys(heap)?;
+    let keys = keys(alloc)?;
     let before = heap.asked();
     let came = match call {
         OnSet::Extend => Came::Extended(set.extend(keys.into_iter())),
@@ -155,113 +144,168 @@ where
     Some((before, came))
 }
 
-/// Puts keys in, and takes some of them out again. Answers how many of the keys 0, 1, .. stay.
-fn prepare<Q: RawRwLock>(set: &Set<'_, Q>, me: &mut Q::Party, call: OnSet) -> Option<u64>
-where
-    Q::Runtime: Wait,
-{
-    let (keys, most) = match call {
-        OnSet::Insert | OnSet::InsertMut => (0, 0),
-        OnSet::ShrinkToFit => (2, 40),
-        _ => (2, 2),
-    };
-    for key in 0..most {
-        set.insert(key, me).ok()?;
+/// How many of the keys 0, 1, .. are there before a call.
+fn before(call: OnSet) -> u64 {
+    match call {
+        OnSet::Insert | OnSet::InsertMut => 0,
+        _ => 2,
     }
-    for key in keys..most {
+}
+
+/// Puts so many keys in.
+fn put<T: Rows, A: Memory>(set: &Set<T, A>, keys: u64, me: &mut T::Party) -> bool {
+    let mut is_done = true;
+    for key in 0..keys {
+        is_done &= set.insert(key, me).is_ok();
+    }
+    is_done
+}
+
+/// Takes these keys out.
+fn take<T: Rows, A: Memory>(set: &Set<T, A>, from: u64, to: u64, me: &mut T::Party) {
+    for key in from..to {
         let _key = set.remove(&key, me);
     }
-    Some(keys)
+}
+
+/// Puts keys in, and takes those out again that aren't to be there before the call.
+fn prepare<T: Rows, A: Memory>(set: &Set<T, A>, me: &mut T::Party, call: OnSet) -> bool {
+    let keys = before(call);
+    let most = if let OnSet::ShrinkToFit = call {
+        40
+    } else {
+        keys
+    };
+    let is_put = put::<T, A>(set, most, me);
+    take::<T, A>(set, keys, most, me);
+    is_put
 }
 
 /// Compares what stands where no shard is held, since who asks for one that is waits.
-fn stands<Q: RawRwLock>(
+fn stands<T: Rows, A: Memory>(
     heap: &Heap,
-    set: &Set<'_, Q>,
+    set: &Set<T, A>,
     keys: u64,
     came: Came,
-    me: &mut Q::Party,
-) -> bool
-where
-    Q::Runtime: Wait,
-{
-    compared(set, came, me).fits(heap) && count(set, 0, keys, me) == keys
+    me: &mut T::Party,
+) -> bool {
+    compared::<T, A>(set, came, me).fits(heap) && count::<T, A>(set, 0, keys, me) == keys
 }
 
 /// Collects the keys of a set that goes. It may do with less memory than it asks for first.
-fn collect_owned<Q: RawRwLock + Drop, R: Threads + Sync>(
+fn collect_owned<T: Rows, R: Threads + Sync, A: Memory>(
     heap: &Heap,
-    rt: &R,
-    set: Set<'_, Q>,
-) -> Said {
-    let list = set.into_par_iter().map_collect(rt, heap, |key: u64| key);
-    listed(list, 2, NoMemory)
-}
-
-/// Makes a call on a set that is lent.
-fn ask_set<'h, Q: RawRwLock + MakeLock<T> + Drop + Sync, T: Rows + Drop, R: Threads + Sync>(
-    heap: &'h Heap,
+    alloc: A,
     rt: &R,
     table: T,
-    set: &mut Set<'h, Q>,
-    team: &mut Team<Q::Party>,
-    call: OnSet,
-) -> Option<Seen>
-where
-    Q::Runtime: Wait,
-    Q::Party: Send,
-{
-    let keys = prepare(set, &mut team.me, call)?;
+    set: Set<T, A>,
+) -> Option<Seen> {
     let before = heap.asked();
-    let (before, came) = match call {
-        OnSet::Extend | OnSet::ParExtend | OnSet::ParExtendShared => {
-            extend(heap, rt, set, &mut team.others, call)?
-        }
-        OnSet::MapCollect => (
-            before,
-            Came::Other(collect(heap, rt, set, &mut team.others)),
-        ),
-        _ => (before, make_call(table, set, &mut team.me, call)),
-    };
-    let behind = heap.asked();
-    let is_right = table.are_free() && stands(heap, set, keys, came, &mut team.me);
-    Seen::of(before, behind, is_right)
-}
-
-/// Collects the keys of a set that goes.
-fn own_set<Q: RawRwLock + Drop, T: Rows, R: Threads + Sync>(
-    heap: &Heap,
-    rt: &R,
-    table: T,
-    set: Set<'_, Q>,
-    me: &mut Q::Party,
-) -> Option<Seen>
-where
-    Q::Runtime: Wait,
-{
-    let _keys = prepare(&set, me, OnSet::OwnedMapCollect)?;
-    let before = heap.asked();
-    let said = collect_owned(heap, rt, set);
+    let list = set.into_par_iter().map_collect(rt, alloc, |key: u64| key);
+    let said = listed(list, 2, NoMemory);
     Seen::of(before, heap.asked(), said.may_fit(heap) && table.are_free())
 }
 
-/// Makes a call on a new set, or collects the keys of one that goes.
-pub fn with_set<Q: RawRwLock + MakeLock<T> + Drop + Sync, T: Rows + Drop, R: Threads + Sync>(
+/// Makes a call. Answers how many growths were asked for before, too.
+fn make<T: Rows, R: Threads + Sync, A: Memory>(
     heap: &Heap,
+    alloc: A,
     rt: &R,
     table: T,
-    team: &mut Team<Q::Party>,
+    set: &mut Set<T, A>,
+    team: &mut Team<T::Party>,
+    call: OnSet,
+) -> Option<(u64, Came)>
+where
+    T::Lock: Sync,
+    T::Party: Send,
+{
+    let before = heap.asked();
+    match call {
+        OnSet::Extend | OnSet::ParExtend | OnSet::ParExtendShared => {
+            extend::<T, R, A>(heap, alloc, rt, set, &mut team.others, call)
+        }
+        OnSet::MapCollect => {
+            let said = collect::<T, R, A>(alloc, rt, set, &mut team.others);
+            Some((before, Came::Other(said)))
+        }
+        _ => Some((before, make_call(table, set, &mut team.me, call))),
+    }
+}
+
+/// Makes a call on a set that is lent.
+fn ask_set<T: Rows, R: Threads + Sync, A: Memory>(
+    heap: &Heap,
+    alloc: A,
+    rt: &R,
+    table: T,
+    set: &mut Set<T, A>,
+    team: &mut Team<T::Party>,
     call: OnSet,
 ) -> Option<Seen>
 where
-    Q::Runtime: Wait,
-    Q::Party: Send,
+    T::Lock: Sync,
+    T::Party: Send,
 {
-    let mut set: Set<'_, Q> = DashSet::with_hasher(heap, SpreadState, 1, table).ok()?;
-    if let OnSet::OwnedMapCollect = call {
-        return own_set(heap, rt, table, set, &mut team.me);
+    let is_put = prepare::<T, A>(set, &mut team.me, call);
+    let (before_it, came) = make(heap, alloc, rt, table, set, team, call)?;
+    let behind = heap.asked();
+    let is_right = is_put && table.are_free();
+    let is_right = is_right && stands::<T, A>(heap, set, before(call), came, &mut team.me);
+    Seen::of(before_it, behind, is_right)
+}
+
+/// Collects the keys of a set that goes.
+fn own_set<T: Rows, R: Threads + Sync, A: Memory>(
+    heap: &Heap,
+    alloc: A,
+    rt: &R,
+    table: T,
+    set: Set<T, A>,
+    me: &mut T::Party,
+) -> Option<Seen> {
+    let is_put = prepare::<T, A>(&set, me, OnSet::OwnedMapCollect);
+    collect_owned(heap, alloc, rt, table, set)?.and(is_put)
+}
+
+/// Makes a call on a set, or collects its keys as it goes.
+fn ask_or_own<T: Rows, R: Threads + Sync, A: Memory>(
+    heap: &Heap,
+    alloc: A,
+    rt: &R,
+    table: T,
+    mut set: Set<T, A>,
+    team: &mut Team<T::Party>,
+    call: OnSet,
+) -> Option<Seen>
+where
+    T::Lock: Sync,
+    T::Party: Send,
+{
+    match call {
+        OnSet::OwnedMapCollect => own_set(heap, alloc, rt, table, set, &mut team.me),
+        _ => ask_set(heap, alloc, rt, table, &mut set, team, call),
     }
-    ask_set(heap, rt, table, &mut set, team, call)
+}
+
+/// Makes a call on a new set.
+pub fn with_set<T: Rows, R: Threads + Sync, A: Memory>(
+    heap: &Heap,
+    alloc: A,
+    rt: &R,
+    table: T,
+    team: &mut Team<T::Party>,
+    call: OnSet,
+) -> Option<Seen>
+where
+    T::Lock: Sync,
+    T::Party: Send,
+{
+    let set: Result<Set<T, A>, MapFault> = DashSet::with_hasher(alloc, SpreadState, 1, table);
+    match set {
+        Ok(set) => ask_or_own(heap, alloc, rt, table, set, team, call),
+        Err(_) => None,
+    }
 }
 
 const KEY: &str = "the key comes back; no key; no hold";
