@@ -2,7 +2,7 @@
 //!
 //! An upgradable reader keeps other writers out and lets readers in; it becomes the writer without letting go.
 
-use parking_lot::{LockTable, ParkingLot, RwLock, RwLockUpgradableReadGuard, ThreadData};
+use parking_lot::{LockTable, LotFault, ParkingLot, RwLock, RwLockUpgradableReadGuard, ThreadData};
 use std::alloc::Global;
 use std::sync::Wait;
 use std::thread::{self, Threads};
@@ -70,11 +70,12 @@ fn longest<R: Wait>(answers: &Answers<'_, '_, R>, below: u64, mut me: ThreadData
 }
 
 /// Two threads ask beside each other.
-fn both<R>(rt: &R, all: &Answers<'_, '_, R>, one: ThreadData, two: ThreadData) -> (u64, u64)
+fn both<R>(rt: &R, lot: &ParkingLot<R>, all: &Answers<'_, '_, R>) -> Result<(u64, u64), LotFault>
 where
     R: Wait + Threads + Sync,
 {
-    thread::join(rt, || longest(all, 20, one), || longest(all, 30, two))
+    let (one, two) = (lot.thread_data()?, lot.thread_data()?);
+    Ok(thread::join(rt, || longest(all, 20, one), || longest(all, 30, two)))
 }
 
 /// The longest ways that two threads found beside each other, and how many answers are kept.
@@ -85,7 +86,6 @@ pub fn run<R: Wait + Threads + Sync + Copy + Drop>(
     let lot = ParkingLot::new(rt, alloc, 2, 4)?;
     let table = LockTable::new(alloc, &lot, 1)?;
     let answers: Answers<'_, '_, R> = RwLock::new(&table, 8, Vec::new(alloc))?; // at most 8 readers
-    let (one, two) = (lot.thread_data()?, lot.thread_data()?);
-    let (low, high) = both(&rt, &answers, one, two);
+    let (low, high) = both(&rt, &lot, &answers)?;
     Ok((low, high, answers.into_inner().len()))
 }

@@ -1,6 +1,6 @@
 //! A counter under a mutex: two visitors count their visits beside each other.
 
-use parking_lot::{LockTable, Mutex, ParkingLot, ThreadData};
+use parking_lot::{LockTable, LotFault, Mutex, ParkingLot, ThreadData};
 use std::alloc::Global;
 use std::sync::Wait;
 use std::thread::{self, Threads};
@@ -39,15 +39,17 @@ fn count_beside<R: Wait>(visits: &Mutex<'_, '_, Visits, R>, me: &mut ThreadData)
 }
 
 /// Two visitors come beside each other.
-fn both<R>(rt: &R, visits: &Mutex<'_, '_, Visits, R>, one: ThreadData, two: ThreadData)
+fn both<R>(rt: &R, lot: &ParkingLot<R>, visits: &Mutex<'_, '_, Visits, R>) -> Result<(), LotFault>
 where
     R: Wait + Threads + Sync,
 {
+    let (one, two) = (lot.thread_data()?, lot.thread_data()?);
     let (_, _) = thread::join(
         rt,
         || visit(visits, "ann", 300, one),
         || visit(visits, "ben", 200, two),
     );
+    Ok(())
 }
 
 /// How many visits there were, and what a try gives while the mutex is locked.
@@ -58,8 +60,7 @@ pub fn run<R: Wait + Threads + Sync + Copy + Drop>(
     let lot = ParkingLot::new(rt, alloc, 3, 1)?; // three threads
     let table = LockTable::new(alloc, &lot, 1)?; // a lock
     let visits = Mutex::new(&table, Visits::default())?;
-    let (one, two, mut me) = (lot.thread_data()?, lot.thread_data()?, lot.thread_data()?);
-    both(&rt, &visits, one, two);
-    let beside = count_beside(&visits, &mut me);
+    both(&rt, &lot, &visits)?;
+    let beside = count_beside(&visits, &mut lot.thread_data()?);
     Ok((visits.into_inner().count, beside)) // the owner needs no lock
 }

@@ -2,7 +2,7 @@
 //!
 //! The closure of a `Once` answers a `Result`. One that failed poisons: later calls are refused, but for forced ones.
 
-use parking_lot::{LockTable, Once, OnceFault, ParkingLot, TableFull, ThreadData};
+use parking_lot::{LockTable, LotFault, Once, OnceFault, ParkingLot, TableFull, ThreadData};
 use std::alloc::Global;
 use std::sync::Wait;
 use std::sync::atomic::{AtomicU64, Ordering};
@@ -63,12 +63,12 @@ impl<'t, 'l, R: Wait> Lazy<'t, 'l, R> {
 /// Two threads ask beside each other.
 fn both<R: Wait + Threads + Sync>(
     rt: &R,
+    lot: &ParkingLot<R>,
     lazy: &Lazy<'_, '_, R>,
-    one: ThreadData,
-    two: ThreadData,
-) -> u64 {
+) -> Result<u64, LotFault> {
+    let (one, two) = (lot.thread_data()?, lot.thread_data()?);
     let (here, there) = thread::join(rt, || lazy.ask(5005, one), || lazy.ask(5005, two));
-    here.wrapping_add(there)
+    Ok(here.wrapping_add(there))
 }
 
 /// How many answers were right, how often the closure ran, and whether one that can't work it out has failed.
@@ -79,8 +79,7 @@ pub fn run<R: Wait + Threads + Sync + Copy + Drop>(
     let lot = ParkingLot::new(rt, alloc, 3, 3)?;
     let table = LockTable::new(alloc, &lot, 2)?;
     let (lazy, never) = (Lazy::over(&table)?, Lazy::over(&table)?);
-    let (one, two, mut me) = (lot.thread_data()?, lot.thread_data()?, lot.thread_data()?);
-    let right = both(&rt, &lazy, one, two);
-    let failed = never.get(5500, &mut me).is_err(); // no closure runs after one that failed
+    let right = both(&rt, &lot, &lazy)?;
+    let failed = never.get(5500, &mut lot.thread_data()?).is_err(); // no closure runs after one that failed
     Ok((right, lazy.runs.into_inner(), failed))
 }

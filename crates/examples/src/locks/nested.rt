@@ -1,6 +1,6 @@
 //! Nested holds: the owner of a `ReentrantMutex` may take it again, up to the limit that it was made with.
 
-use parking_lot::{LockTable, ParkingLot, ReentrantMutex, ThreadData};
+use parking_lot::{LockTable, LotFault, ParkingLot, ReentrantMutex, ThreadData};
 use std::alloc::Global;
 use std::sync::Wait;
 use std::sync::atomic::{AtomicU64, Ordering};
@@ -51,12 +51,13 @@ fn third_refused<R: Wait>(canvas: &Canvas<'_, '_, R>, me: &mut ThreadData) -> bo
 }
 
 /// Two threads draw beside each other, and answer how many squares were drawn alone.
-fn both<R>(rt: &R, canvas: &Canvas<'_, '_, R>, one: ThreadData, two: ThreadData) -> u64
+fn both<R>(rt: &R, lot: &ParkingLot<R>, canvas: &Canvas<'_, '_, R>) -> Result<u64, LotFault>
 where
     R: Wait + Threads + Sync,
 {
+    let (one, two) = (lot.thread_data()?, lot.thread_data()?);
     let (here, there) = thread::join(rt, || draw(canvas, one), || draw(canvas, two));
-    here.wrapping_add(there)
+    Ok(here.wrapping_add(there))
 }
 
 /// How many squares two threads drew alone, whether a third hold is refused, and how many lines there are.
@@ -67,8 +68,7 @@ pub fn run<R: Wait + Threads + Sync + Copy + Drop>(
     let lot = ParkingLot::new(rt, alloc, 3, 9)?;
     let table = LockTable::new(alloc, &lot, 2)?;
     let canvas: Canvas<'_, '_, R> = ReentrantMutex::new(&table, 2, AtomicU64::new(0))?; // at most two holds at a time
-    let (one, two, mut me) = (lot.thread_data()?, lot.thread_data()?, lot.thread_data()?);
-    let alone = both(&rt, &canvas, one, two);
-    let refused = third_refused(&canvas, &mut me);
+    let alone = both(&rt, &lot, &canvas)?;
+    let refused = third_refused(&canvas, &mut lot.thread_data()?);
     Ok((alone, refused, canvas.into_inner().into_inner()))
 }

@@ -2,7 +2,7 @@
 //!
 //! `wait_while` gives the mutex up while it waits, and has it again when it comes back.
 
-use parking_lot::{Condvar, LockTable, Mutex, ParkingLot, TableFull, ThreadData};
+use parking_lot::{Condvar, LockTable, LotFault, Mutex, ParkingLot, TableFull, ThreadData};
 use std::alloc::Global;
 use std::collections::VecDeque;
 use std::sync::Wait;
@@ -102,13 +102,14 @@ fn both<R: Wait + Threads + Sync>(
 /// One thread fills the queue, and two work: how many tasks it put in, and what these took.
 fn all<R>(
     rt: &R,
+    lot: &ParkingLot<R>,
     queue: &Queue<'_, '_, R>,
-    (one, two, three): (ThreadData, ThreadData, ThreadData),
-) -> (u64, (u64, u64))
+) -> Result<(u64, (u64, u64)), LotFault>
 where
     R: Wait + Threads + Sync,
 {
-    thread::join(rt, || fill(queue, one), || both(rt, queue, two, three))
+    let (one, two, three) = (lot.thread_data()?, lot.thread_data()?, lot.thread_data()?);
+    Ok(thread::join(rt, || fill(queue, one), || both(rt, queue, two, three)))
 }
 
 /// How many tasks were put in and taken, and the sum of those that were taken.
@@ -119,7 +120,6 @@ pub fn run<R: Wait + Threads + Sync + Copy + Drop>(
     let lot = ParkingLot::new(rt, alloc, 3, 2)?;
     let table = LockTable::new(alloc, &lot, 2)?; // a mutex and a condition variable
     let queue = Queue::over(&table, alloc)?;
-    let (one, two, three) = (lot.thread_data()?, lot.thread_data()?, lot.thread_data()?);
-    let (put, (taken, sum)) = all(&rt, &queue, (one, two, three));
+    let (put, (taken, sum)) = all(&rt, &lot, &queue)?;
     Ok((put, taken, sum))
 }

@@ -2,7 +2,7 @@
 //!
 //! What can be had at once is had whatever the time; a deadline is looked at where the call sleeps.
 
-use parking_lot::{LockTable, Mutex, ParkingLot, ThreadData};
+use parking_lot::{LockTable, LotFault, Mutex, ParkingLot, ThreadData};
 use std::alloc::Global;
 use std::sync::Wait;
 use std::thread::{self, Threads};
@@ -43,15 +43,17 @@ fn print_beside<R: Wait + Clock>(
 }
 
 /// Two threads print beside each other.
-fn both<R>(rt: &R, printer: &Printer<'_, '_, R>, one: ThreadData, two: ThreadData)
+fn both<R>(rt: &R, lot: &ParkingLot<R>, printer: &Printer<'_, '_, R>) -> Result<(), LotFault>
 where
     R: Wait + Clock + Threads + Sync,
 {
+    let (one, two) = (lot.thread_data()?, lot.thread_data()?);
     let (_, _) = thread::join(
         rt,
         || print_all(rt, printer, one),
         || print_all(rt, printer, two),
     );
+    Ok(())
 }
 
 /// How many pages two threads printed, and whether one more was printed while the printer was in use, and once it was
@@ -63,8 +65,8 @@ where
     let lot = ParkingLot::new(rt, alloc, 3, 7)?;
     let table = LockTable::new(alloc, &lot, 1)?;
     let printer: Printer<'_, '_, R> = Mutex::new(&table, 0)?;
-    let (one, two, mut me) = (lot.thread_data()?, lot.thread_data()?, lot.thread_data()?);
-    both(&rt, &printer, one, two);
+    both(&rt, &lot, &printer)?;
+    let mut me = lot.thread_data()?;
     let used = print_beside(&rt, &printer, &mut me);
     let free = print_within(&rt, &printer, Duration::from_millis(5), &mut me);
     Ok((printer.into_inner(), used, free))

@@ -3,7 +3,7 @@
 //! `unlock_fair` gives the mutex to whoever waits longest, a `FairMutex` does so at each release, and `bump` lets a
 //! waiter in and takes the mutex again.
 
-use parking_lot::{FairMutex, Guard, LockTable, Mutex, ParkingLot, ThreadData};
+use parking_lot::{FairMutex, Guard, LockTable, LotFault, Mutex, ParkingLot, ThreadData};
 use std::alloc::Global;
 use std::sync::Wait;
 use std::thread::{self, Threads};
@@ -35,12 +35,12 @@ fn let_in<R: Wait>(turns: &Mutex<'_, '_, u64, R>, mut me: ThreadData) {
 }
 
 /// A pair of threads that register with a lot.
-fn two<R: Wait>(lot: &ParkingLot<R>) -> Result<(ThreadData, ThreadData), anyhow::Error> {
+fn two<R: Wait>(lot: &ParkingLot<R>) -> Result<(ThreadData, ThreadData), LotFault> {
     Ok((lot.thread_data()?, lot.thread_data()?))
 }
 
 /// Two threads take turns at a mutex, in each way.
-fn both<R>(rt: &R, lot: &ParkingLot<R>, turns: &Mutex<'_, '_, u64, R>) -> Result<(), anyhow::Error>
+fn both<R>(rt: &R, lot: &ParkingLot<R>, turns: &Mutex<'_, '_, u64, R>) -> Result<(), LotFault>
 where
     R: Wait + Threads + Sync,
 {
@@ -54,7 +54,7 @@ fn both_fairly<R>(
     rt: &R,
     lot: &ParkingLot<R>,
     turns: &FairMutex<'_, '_, u64, R>,
-) -> Result<(), anyhow::Error>
+) -> Result<(), LotFault>
 where
     R: Wait + Threads + Sync,
 {

@@ -9,6 +9,13 @@ use std::thread;
 /// A thread's name in the record.
 type Teller = Caller<u64, u64>;
 
+/// Both of two tellers.
+fn two(mut tellers: Vec<Teller>) -> Option<(Teller, Teller)> {
+    let b = tellers.pop()?;
+    let a = tellers.pop()?;
+    Some((a, b))
+}
+
 /// Accounts with their balances, of which each call is written down.
 #[derive(Drop)]
 struct Bank<'t, 'l, R> {
@@ -56,6 +63,19 @@ impl<R: Wait + Threads + Sync> Bank<'_, '_, R> {
         let calls = gather(alloc, self.accounts.histories(), logs, hasher).ok()?;
         Some(calls.len())
     }
+
+    /// What two tellers leave when they use it, and how many calls there were.
+    fn audited(
+        self,
+        rt: &R,
+        alloc: Global,
+        lot: &ParkingLot<R>,
+        (mut a, mut b): (Teller, Teller),
+        hasher: &RandomState,
+    ) -> (Option<u64>, Option<usize>) {
+        let balance = self.used(rt, &mut a, &mut b, lot);
+        (balance, self.judged(alloc, a, b, hasher))
+    }
 }
 
 /// The balance that two tellers left, and how many calls there were, of which one legal history was found.
@@ -66,14 +86,10 @@ where
     let hasher = RandomState::new(&rt)?;
     let lot = ParkingLot::new(rt, alloc, 3, 5)?;
     let table = table_for(alloc, &lot, 1, 4)?;
-    let (accounts, mut tellers) = Recorded::new(alloc, 4, hasher.clone()?, 2, &table)?;
+    let (accounts, tellers) = Recorded::new(alloc, 4, hasher.clone()?, 2, &table)?;
     let bank = Bank { accounts };
-    let Some(mut b) = tellers.pop() else {
-        return Ok((None, None))
-    };
-    let Some(mut a) = tellers.pop() else {
-        return Ok((None, None))
-    };
-    let balance = bank.used(&rt, &mut a, &mut b, &lot);
-    Ok((balance, bank.judged(alloc, a, b, &hasher)))
+    Ok(match two(tellers) {
+        Some(both) => bank.audited(&rt, alloc, &lot, both, &hasher),
+        None => (None, None),
+    })
 }

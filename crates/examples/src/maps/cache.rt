@@ -52,6 +52,14 @@ impl<R: Wait + Threads + Sync> Cache<'_, '_, R> {
         self.squares.retain(|_, kept| kept.1 >= since, me);
         self.squares.len(me)
     }
+
+    /// Fills it by two threads, and evicts. Answers the sums that they saw, and how many squares were kept and are left.
+    fn use_it(&self, rt: &R, lot: &ParkingLot<R>) -> Result<(u64, u64, usize, usize), LotFault> {
+        let (one, two, mut me) = (lot.thread_data()?, lot.thread_data()?, lot.thread_data()?);
+        let (low, high) = self.both(rt, one, two);
+        let kept = self.squares.len(&mut me);
+        Ok((low, high, kept, self.evict(&mut me)))
+    }
 }
 
 /// The sums that two threads saw beside each other, how many squares were kept then, and how many are left.
@@ -65,8 +73,5 @@ where
         squares: DashMap::with_shard_amount(alloc, 8, &table)?,
         time: AtomicU64::new(0),
     };
-    let (one, two, mut me) = (lot.thread_data()?, lot.thread_data()?, lot.thread_data()?);
-    let (low, high) = cache.both(&rt, one, two);
-    let kept = cache.squares.len(&mut me);
-    Ok((low, high, kept, cache.evict(&mut me)))
+    Ok(cache.use_it(&rt, &lot)?)
 }

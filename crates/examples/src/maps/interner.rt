@@ -41,6 +41,13 @@ impl<R: Wait + Threads + Sync> Interner<'_, '_, R> {
     fn both(&self, rt: &R, one: ThreadData, two: ThreadData) -> (u64, u64) {
         thread::join(rt, || self.ask(one), || self.ask(two))
     }
+
+    /// Asks by two threads. Answers the sums that they got, and how many texts have a number then.
+    fn use_it(&self, rt: &R, lot: &ParkingLot<R>) -> Result<(u64, u64, usize), LotFault> {
+        let (one, two, mut me) = (lot.thread_data()?, lot.thread_data()?, lot.thread_data()?);
+        let (here, there) = self.both(rt, one, two);
+        Ok((here, there, self.numbers.len(&mut me)))
+    }
 }
 
 /// The sums of the numbers that two threads got for four words, and how many texts there are.
@@ -55,7 +62,5 @@ where
         next: AtomicU64::new(0),
         alloc,
     };
-    let (one, two, mut me) = (lot.thread_data()?, lot.thread_data()?, lot.thread_data()?);
-    let (here, there) = interner.both(&rt, one, two);
-    Ok((here, there, interner.numbers.len(&mut me)))
+    Ok(interner.use_it(&rt, &lot)?)
 }

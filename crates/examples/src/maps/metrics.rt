@@ -62,6 +62,15 @@ impl<R: Wait + Threads + Sync> Metrics<'_, '_, R> {
     fn read(&self, name: &'static str, me: &mut ThreadData) -> u64 {
         self.counts.view(&name, |_, count| *count, me).unwrap_or(0)
     }
+
+    /// Scrapes beside a worker. Answers whether sums only grew, and what the worker counted: requests, bytes and errors.
+    fn use_them(&self, rt: &R, lot: &ParkingLot<R>) -> Result<(bool, u64, u64, u64), LotFault> {
+        let (one, two, mut me) = (lot.thread_data()?, lot.thread_data()?, lot.thread_data()?);
+        let grown = self.both(rt, one, two);
+        let requests = self.read("requests", &mut me);
+        let bytes = self.read("bytes", &mut me);
+        Ok((grown, requests, bytes, self.read("errors", &mut me)))
+    }
 }
 
 /// Whether sums only grew while a worker counted, and then its requests, bytes and errors.
@@ -73,9 +82,5 @@ where
     let table = table_for(alloc, &lot, 1, 8)?;
     let counts = DashMap::with_shard_amount(alloc, 8, &table)?;
     let metrics = Metrics { counts };
-    let (one, two, mut me) = (lot.thread_data()?, lot.thread_data()?, lot.thread_data()?);
-    let grown = metrics.both(&rt, one, two);
-    let requests = metrics.read("requests", &mut me);
-    let bytes = metrics.read("bytes", &mut me);
-    Ok((grown, requests, bytes, metrics.read("errors", &mut me)))
+    Ok(metrics.use_them(&rt, &lot)?)
 }

@@ -30,10 +30,11 @@ impl<R: Wait + Threads + Sync> Registry<'_, '_, R> {
         thread::join(rt, || self.serve("ben", b), || self.serve("eve", c))
     }
 
-    /// Three threads serve beside each other.
-    fn all(&self, rt: &R, a: ThreadData, b: ThreadData, c: ThreadData) -> u64 {
+    /// Three threads serve beside each other. Answers how many connections they left open.
+    fn all(&self, rt: &R, lot: &ParkingLot<R>) -> Result<u64, LotFault> {
+        let (a, b, c) = (lot.thread_data()?, lot.thread_data()?, lot.thread_data()?);
         let (ann, (ben, eve)) = thread::join(rt, || self.serve("ann", a), || self.both(rt, b, c));
-        ann.wrapping_add(ben).wrapping_add(eve)
+        Ok(ann.wrapping_add(ben).wrapping_add(eve))
     }
 
     /// Sends a message to each connection, and answers how many it reached.
@@ -49,6 +50,13 @@ impl<R: Wait + Threads + Sync> Registry<'_, '_, R> {
         }
         reached
     }
+
+    /// Broadcasts, then closes ben's connections and broadcasts again. Answers how many each reached.
+    fn reach(&self, me: &mut ThreadData) -> (u64, u64) {
+        let reached = self.broadcast(me);
+        self.open.retain(|(name, _), _| *name != "ben", me);
+        (reached, self.broadcast(me))
+    }
 }
 
 /// How many connections three threads left open, how many a broadcast reached, and how many one without ben's.
@@ -60,10 +68,7 @@ where
     let table = table_for(alloc, &lot, 1, 8)?;
     let open = DashMap::with_shard_amount(alloc, 8, &table)?;
     let registry = Registry { open };
-    let (a, b, c) = (lot.thread_data()?, lot.thread_data()?, lot.thread_data()?);
-    let mut me = lot.thread_data()?;
-    let count = registry.all(&rt, a, b, c);
-    let reached = registry.broadcast(&mut me);
-    registry.open.retain(|(name, _), _| *name != "ben", &mut me);
-    Ok((count, reached, registry.broadcast(&mut me)))
+    let count = registry.all(&rt, &lot)?;
+    let (reached, some) = registry.reach(&mut lot.thread_data()?);
+    Ok((count, reached, some))
 }
