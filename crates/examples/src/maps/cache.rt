@@ -53,8 +53,8 @@ impl<R: Wait + Threads + Sync> Cache<'_, '_, R> {
         self.squares.len(me)
     }
 
-    /// Fills it by two threads, and evicts. Answers the sums that they saw, and how many squares were kept and are left.
-    fn use_it(&self, rt: &R, lot: &ParkingLot<R>) -> Result<(u64, u64, usize, usize), LotFault> {
+    /// Serves two threads, and evicts. Answers the sums that they saw, and how many squares were kept and are left.
+    fn serve(&self, rt: &R, lot: &ParkingLot<R>) -> Result<(u64, u64, usize, usize), LotFault> {
         let (one, two, mut me) = (lot.thread_data()?, lot.thread_data()?, lot.thread_data()?);
         let (low, high) = self.both(rt, one, two);
         let kept = self.squares.len(&mut me);
@@ -73,5 +73,5 @@ where
         squares: DashMap::with_shard_amount(alloc, 8, &table)?,
         time: AtomicU64::new(0),
     };
-    Ok(cache.use_it(&rt, &lot)?)
+    Ok(cache.serve(&rt, &lot)?)
 }

@@ -42,8 +42,8 @@ impl<R: Wait + Threads + Sync> Interner<'_, '_, R> {
         thread::join(rt, || self.ask(one), || self.ask(two))
     }
 
-    /// Asks by two threads. Answers the sums that they got, and how many texts have a number then.
-    fn use_it(&self, rt: &R, lot: &ParkingLot<R>) -> Result<(u64, u64, usize), LotFault> {
+    /// Serves two threads. Answers the sums that they got, and how many texts have a number then.
+    fn serve(&self, rt: &R, lot: &ParkingLot<R>) -> Result<(u64, u64, usize), LotFault> {
         let (one, two, mut me) = (lot.thread_data()?, lot.thread_data()?, lot.thread_data()?);
         let (here, there) = self.both(rt, one, two);
         Ok((here, there, self.numbers.len(&mut me)))
@@ -62,5 +62,5 @@ where
         next: AtomicU64::new(0),
         alloc,
     };
-    Ok(interner.use_it(&rt, &lot)?)
+    Ok(interner.serve(&rt, &lot)?)
 }

@@ -64,7 +64,7 @@ impl<R: Wait + Threads + Sync> Metrics<'_, '_, R> {
     }
 
     /// Scrapes beside a worker. Answers whether sums only grew, and what the worker counted: requests, bytes and errors.
-    fn use_them(&self, rt: &R, lot: &ParkingLot<R>) -> Result<(bool, u64, u64, u64), LotFault> {
+    fn observe(&self, rt: &R, lot: &ParkingLot<R>) -> Result<(bool, u64, u64, u64), LotFault> {
         let (one, two, mut me) = (lot.thread_data()?, lot.thread_data()?, lot.thread_data()?);
         let grown = self.both(rt, one, two);
         let requests = self.read("requests", &mut me);
@@ -82,5 +82,5 @@ where
     let table = table_for(alloc, &lot, 1, 8)?;
     let counts = DashMap::with_shard_amount(alloc, 8, &table)?;
     let metrics = Metrics { counts };
-    Ok(metrics.use_them(&rt, &lot)?)
+    Ok(metrics.observe(&rt, &lot)?)
 }
