@@ -1,7 +1,9 @@
 //! The lot, with threads and without, and the table of locks on it.
 
 use crate::memory::{Memory, is_done, listed};
-use parking_lot_core::{DEFAULT_PARK_TOKEN, Lot, LotFault, ParkingLot, SizeFault, deadlock};
+use parking_lot_core::{
+    DEFAULT_PARK_TOKEN, Lot, LotFault, ParkingLot, SizeFault, ThreadData, deadlock,
+};
 use parking_lot_rwlock::LockTable;
 use refusing_heap::{Case, Heap, Line, Said, Seen, made};
 use std::sync::Wait;
@@ -20,20 +22,24 @@ pub enum Call {
     Queue,
 }
 
+/// Gives a thread the resources from 9 to below another.
+fn give<A: Memory>(lot: &mut Lot<A>, thread: usize, end: usize) -> bool {
+    let mut are_given = true;
+    for key in 9..end {
+        are_given &= lot.acquire_resource(thread, key).is_ok();
+    }
+    are_given
+}
+
 /// Registers so many threads, of which the first gets the resource 9 and waits under the key 5, and the second gets
 /// three.
-fn fill<A: Memory>(lot: &mut Lot<A>, threads: usize) -> Option<()> {
+fn fill<A: Memory>(lot: &mut Lot<A>, threads: usize) -> bool {
+    let mut is_filled = true;
     for thread in 0..threads {
-        lot.register().ok()?;
-        let last = if thread > 0 { 12 } else { 10 };
-        for key in 9..last {
-            lot.acquire_resource(thread, key).ok()?;
-        }
+        let end = if thread > 0 { 12 } else { 10 };
+        is_filled &= lot.register().is_ok() && give(lot, thread, end);
     }
-    if threads > 0 {
-        lot.park(0, 5, || true, DEFAULT_PARK_TOKEN, false).ok()?;
-    }
-    Some(())
+    is_filled && (threads == 0 || lot.park(0, 5, || true, DEFAULT_PARK_TOKEN, false).is_ok())
 }
 
 /// Whether a thread has so many resources.
@@ -41,18 +47,21 @@ fn has<A: Memory>(lot: &Lot<A>, thread: usize, resources: usize) -> bool {
     is_done(listed(lot.resources(thread), resources, LotFault::NoMemory))
 }
 
+/// What came of the next registration. A refused one leaves its number free, and the buckets as they are.
+fn register<A: Memory>(lot: &mut Lot<A>, threads: usize) -> Said {
+    let buckets = lot.buckets();
+    match lot.register() {
+        Ok(thread) => Said::of(thread == threads, false),
+        Err(fault) => {
+            let is_free = lot.status(threads).is_none() && lot.buckets() == buckets;
+            Said::of(false, fault == LotFault::NoMemory && is_free)
+        }
+    }
+}
+
 fn make<A: Memory>(lot: &mut Lot<A>, call: Call) -> Said {
     match call {
-        Call::Register(threads) => {
-            let buckets = lot.buckets();
-            match lot.register() {
-                Ok(thread) => Said::of(thread == threads, false),
-                Err(fault) => {
-                    let is_free = lot.status(threads).is_none() && lot.buckets() == buckets;
-                    Said::of(false, fault == LotFault::NoMemory && is_free)
-                }
-            }
-        }
+        Call::Register(threads) => register(lot, threads),
         Call::Resources => listed(lot.resources(0), 1, LotFault::NoMemory),
         Call::Queue => listed(lot.queue(5), 1, LotFault::NoMemory),
         Call::New | Call::AcquireResource => made(lot.acquire_resource(1, 8), LotFault::NoMemory),
@@ -67,7 +76,9 @@ fn ask<A: Memory>(heap: &Heap, lot: &mut Lot<A>, call: Call) -> Option<Seen> {
         Call::AcquireResource => (2, 4),
         _ => (2, 3),
     };
-    fill(lot, threads)?;
+    if !fill(lot, threads) {
+        return None;
+    }
     let before = heap.asked();
     let said = make(lot, call);
     let behind = heap.asked();
@@ -122,9 +133,18 @@ fn admitted<R: Wait, A: Memory>(lot: &ParkingLot<R, A>) -> Result<usize, LotFaul
     }
 }
 
-fn admit<R: Wait, A: Memory>(heap: &Heap, lot: &ParkingLot<R, A>, threads: usize) -> Option<Seen> {
+/// Whether so many threads are admitted.
+fn admit_all<R: Wait, A: Memory>(lot: &ParkingLot<R, A>, threads: usize) -> bool {
+    let mut are_admitted = true;
     for _ in 0..threads {
-        admitted(lot).ok()?;
+        are_admitted &= admitted(lot).is_ok();
+    }
+    are_admitted
+}
+
+fn admit<R: Wait, A: Memory>(heap: &Heap, lot: &ParkingLot<R, A>, threads: usize) -> Option<Seen> {
+    if !admit_all(lot, threads) {
+        return None;
     }
     let before = heap.asked();
     let said = admitted(lot);
@@ -135,25 +155,44 @@ fn admit<R: Wait, A: Memory>(heap: &Heap, lot: &ParkingLot<R, A>, threads: usize
 }
 
 /// Records a resource of a thread.
-fn note<R: Wait, A: Memory>(heap: &Heap, lot: &ParkingLot<R, A>) -> Option<Seen> {
-    let mut me = lot.thread_data().ok()?;
+fn note<A: Memory>(heap: &Heap, me: &mut ThreadData<A>) -> Option<Seen> {
     let before = heap.asked();
-    let said = made(deadlock::acquire_resource(&mut me, 9), LotFault::NoMemory);
+    let said = made(deadlock::acquire_resource(me, 9), LotFault::NoMemory);
     let behind = heap.asked();
     let count = if is_done(said) { 1 } else { 0 };
-    let list = listed(deadlock::resources(&me), count, LotFault::NoMemory);
+    let list = listed(deadlock::resources(me), count, LotFault::NoMemory);
     Seen::of(before, behind, said.fits(heap) && is_done(list))
 }
 
 /// Lists the resource of a thread, which may do with less memory than it asks for first.
-fn list<R: Wait, A: Memory>(heap: &Heap, lot: &ParkingLot<R, A>) -> Option<Seen> {
-    let mut me = lot.thread_data().ok()?;
-    deadlock::acquire_resource(&mut me, 9).ok()?;
+fn list<A: Memory>(heap: &Heap, me: &mut ThreadData<A>) -> Option<Seen> {
+    if deadlock::acquire_resource(me, 9).is_err() {
+        return None;
+    }
     let before = heap.asked();
-    let said = listed(deadlock::resources(&me), 1, LotFault::NoMemory);
+    let said = listed(deadlock::resources(me), 1, LotFault::NoMemory);
     let behind = heap.asked();
-    let again = listed(deadlock::resources(&me), 1, LotFault::NoMemory);
+    let again = listed(deadlock::resources(me), 1, LotFault::NoMemory);
     Seen::of(before, behind, said.may_fit(heap) && is_done(again))
+}
+
+fn of_thread<A: Memory>(heap: &Heap, me: &mut ThreadData<A>, call: SharedCall) -> Option<Seen> {
+    match call {
+        SharedCall::Resources => list(heap, me),
+        _ => note(heap, me),
+    }
+}
+
+/// Makes a call of a new thread.
+fn with_thread<R: Wait, A: Memory>(
+    heap: &Heap,
+    lot: &ParkingLot<R, A>,
+    call: SharedCall,
+) -> Option<Seen> {
+    match lot.thread_data() {
+        Ok(mut me) => of_thread(heap, &mut me, call),
+        Err(_) => None,
+    }
 }
 
 /// Makes a table of three locks. A refused one has claimed no key of the lot, of which each lock has two.
@@ -174,8 +213,7 @@ fn ask_shared<R: Wait, A: Memory>(
 ) -> Option<Seen> {
     match call {
         SharedCall::ThreadData(threads) => admit(heap, lot, threads),
-        SharedCall::AcquireResource => note(heap, lot),
-        SharedCall::Resources => list(heap, lot),
+        SharedCall::AcquireResource | SharedCall::Resources => with_thread(heap, lot, call),
         SharedCall::New | SharedCall::LockTable => make_table(heap, alloc, lot),
     }
 }

@@ -154,6 +154,15 @@ where
     Some((before, came))
 }
 
+/// What an insertion answers that waits up to a moment.
+fn in_time(said: Result<Option<u64>, UntilFault<(u64, u64)>>) -> Came {
+    match said {
+        Ok(old) => Came::Inserted(Ok(old)),
+        Err(UntilFault::NoMemory(pair)) => Came::Inserted(Err(pair)),
+        Err(UntilFault::Locked(_)) => Came::Other(Said::Other),
+    }
+}
+
 /// Inserts up to a moment that has come.
 fn insert_until<T: Rows, R: Clock, A: Memory>(
     rt: &R,
@@ -161,11 +170,7 @@ fn insert_until<T: Rows, R: Clock, A: Memory>(
     me: &mut T::Party,
 ) -> Option<Came> {
     let moment = Instant::now(rt).ok()?;
-    Some(match map.insert_until(5, 7, moment, rt, me) {
-        Ok(old) => Came::Inserted(Ok(old)),
-        Err(UntilFault::NoMemory(pair)) => Came::Inserted(Err(pair)),
-        Err(UntilFault::Locked(_)) => Came::Other(Said::Other),
-    })
+    Some(in_time(map.insert_until(5, 7, moment, rt, me)))
 }
 
 /// Inserts into an empty map that is lent.
@@ -277,23 +282,32 @@ fn inserted_at<T: Rows, A: Memory>(
     entry: Entry<'_, '_, Costly<'_>, u64, T::Lock, A>,
     number: u64,
 ) -> Said {
-    match entry.insert_entry(7) {
+    let said = entry.insert_entry(7);
+    match &said {
         Ok(entry) => Said::of(*entry.get() == 7, false),
         Err(back) => Said::of(false, back.1 == 7 && back.0.key().number() == number),
     }
 }
 
-/// What came of an insertion of 7 at the place of a new key that stays there: it clones the key.
+/// What came of an insertion of 7 at the place of the new key 3 that stays there: it clones the key.
 fn enter<'h, T: Rows, A: Memory>(
+    heap: &'h Heap,
     map: &Entries<'h, T, A>,
-    key: Costly<'h>,
     me: &mut T::Party,
 ) -> Said {
-    let number = key.number();
-    match map.entry(key, me) {
-        Ok(entry) => inserted_at::<T, A>(entry, number),
+    match map.entry(Costly::new(heap, 3), me) {
+        Ok(entry) => inserted_at::<T, A>(entry, 3),
         Err(_key) => Said::Other,
     }
+}
+
+/// Puts in the key 1, which is of the same shard.
+fn put_other<'h, T: Rows, A: Memory>(
+    heap: &'h Heap,
+    map: &Entries<'h, T, A>,
+    me: &mut T::Party,
+) -> bool {
+    map.insert(Costly::new(heap, 1), 0, me).is_ok()
 }
 
 /// Makes the call on a map that has another key of the same shard, so there is room for one more.
@@ -303,9 +317,9 @@ fn ask_entries<'h, T: Rows, A: Memory>(
     map: &Entries<'h, T, A>,
     me: &mut T::Party,
 ) -> Option<Seen> {
-    let is_put = map.insert(Costly::new(heap, 1), 0, me).is_ok();
+    let is_put = put_other::<T, A>(heap, map, me);
     let before = heap.asked();
-    let said = enter::<T, A>(map, Costly::new(heap, 3), me);
+    let said = enter::<T, A>(heap, map, me);
     let length = if is_done(said) { 2 } else { 1 };
     said.seen(
         heap,

@@ -147,6 +147,15 @@ fn gather_lists<A: Memory>(
     (before, listed(list, count, GatherFault::NoMemory))
 }
 
+/// What was written down by the only caller.
+fn logs_of<A: Memory>(alloc: A, me: Me<A>) -> Option<Vec<List<A>, A>> {
+    let mut logs = Vec::new(alloc);
+    match logs.push(me.log()) {
+        Ok(()) => Some(logs),
+        Err(_) => None,
+    }
+}
+
 /// Gathers what was written down by the only caller.
 fn gather_all<T: Rows, A: Memory>(
     heap: &Heap,
@@ -155,15 +164,30 @@ fn gather_all<T: Rows, A: Memory>(
     me: Me<A>,
     count: usize,
 ) -> Option<(u64, Said)> {
-    let mut logs = Vec::new(alloc);
-    logs.push(me.log()).ok()?;
-    Some(gather_lists(heap, alloc, map.histories(), logs, count))
+    match logs_of(alloc, me) {
+        Some(logs) => Some(gather_lists(heap, alloc, map.histories(), logs, count)),
+        None => None,
+    }
+}
+
+/// A map with the first of its callers.
+fn with_first<T: Rows, A: Memory>(
+    map: Small<T, A>,
+    callers: Vec<Me<A>, A>,
+) -> Option<(Small<T, A>, Me<A>)> {
+    let mut callers = callers;
+    match callers.pop() {
+        Some(me) => Some((map, me)),
+        None => None,
+    }
 }
 
 /// A new recorded map, and its only caller.
 fn recorded<T: Rows, A: Memory>(alloc: A, table: T) -> Option<(Small<T, A>, Me<A>)> {
-    let (map, mut callers) = Recorded::new(alloc, SHARDS, Fold::new(), 1, table).ok()?;
-    Some((map, callers.pop()?))
+    match Recorded::new(alloc, SHARDS, Fold::new(), 1, table) {
+        Ok((map, callers)) => with_first::<T, A>(map, callers),
+        Err(_) => None,
+    }
 }
 
 /// Makes the call on a new recorded map, and looks at all that was written down.
