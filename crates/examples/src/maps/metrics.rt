@@ -63,7 +63,7 @@ impl<R: Wait + Threads + Sync> Metrics<'_, '_, R> {
         self.counts.view(&name, |_, count| *count, me).unwrap_or(0)
     }
 
-    /// Scrapes beside a worker. Answers whether sums only grew, and what the worker counted: requests, bytes and errors.
+    /// Scrapes beside a worker. Answers whether sums only grew, and its requests, bytes and errors.
     fn observe(&self, rt: &R, lot: &ParkingLot<R>) -> Result<(bool, u64, u64, u64), LotFault> {
         let (one, two, mut me) = (lot.thread_data()?, lot.thread_data()?, lot.thread_data()?);
         let grown = self.both(rt, one, two);
