@@ -11,6 +11,10 @@ abbrev pub Walked : {P : Type 0} → (P → ℕ → P → Type 0) → ℕ → P 
 Walked R zero p q = p ≡ q
 Walked {P} R (suc n) p q = (m : P) × Walked R n p m × R m n q
 
+-- what was walked up to p is walked up to q by the steps from one number to another
+abbrev pub Extends : {P : Type 0} → (P → ℕ → P → Type 0) → ℕ → P → ℕ → P → Type 0
+Extends {P} R from p to q = (start : P) → Walked R from start p → Walked R to start q
+
 -- f, called at k and a `&mut` to v, may answer r, leave w there and be g afterwards
 pub record AnswersNext {F K V R : Type 0} (member : Mut F (Bor K × (MutBor V × Unit {0})) (R × (MutBor V × Unit {0})))
     (f : F) (k : K) (v : V) (r : R) (w : V) (g : F) : Type 0 where

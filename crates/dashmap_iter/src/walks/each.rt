@@ -1,11 +1,11 @@
 //! What a walk does to a shard while it holds it: to each pair in turn, in the order of the slots. For the walks of the
 //! map.
-ghost use Rattle.std.specs.Prelude.{◌≡◌, ℕ, ◌≤◌, None, IsSome, length};
+ghost use Rattle.std.specs.Prelude.{◌≡◌, ◌≢◌, ℕ, ◌+◌, ◌-◌, ◌^◌, ◌<◌, ◌≤◌, None, IsSome, length, min};
 ghost use Rattle.dashmap_table.specs.Slots.{at};
-ghost use Rattle.dashmap_iter.specs.Walks.Visits.{Walked, AtFull, Keeps, Alters, AnswersNext, MakesNext};
+ghost use Rattle.dashmap_iter.specs.Walks.Visits.{Walked, Extends, AtFull, Keeps, Alters, AnswersNext, MakesNext};
 
 use core::mem;
-use dashmap_table::Shard;
+use dashmap_table::{Shard, WIDTH};
 use std::alloc::Allocator;
 use std::hash::Hash;
 
@@ -41,6 +41,7 @@ fn keep_slot<K: Eq + Hash + Drop, V: Drop, A: Allocator, F: FnMut(&K, &mut V) ->
     requires callable { F.IsAlwaysCallable f }
     ensures visit { AtFull (Keeps F.FnMut) (f, shard.old) slot (result, shard.new) }
     ensures slots { length shard.new.slots ≡ length shard.old.slots }
+    ensures others { (j : ℕ) → j ≢ slot → at shard.new.slots j ≡ at shard.old.slots j }
     ensures again { F.IsAlwaysCallable result }
 {
     let (key, value) = shard.lend(slot);
@@ -49,6 +50,30 @@ fn keep_slot<K: Eq + Hash + Drop, V: Drop, A: Allocator, F: FnMut(&K, &mut V) ->
         return f;
     }
     let _pair = shard.remove(slot);
+    f
+}
+
+/// Asks the closure of each pair in sixteen slots, which are looked at once: a removal changes no other slot.
+#[inline(always)]
+fn keep_sixteen<K: Eq + Hash + Drop, V: Drop, A: Allocator, F: FnMut(&K, &mut V) -> bool>(
+    shard: &mut Shard<K, V, A>,
+    from: usize,
+    f: F,
+) -> F
+    requires within { from ≤ length shard.old.slots }
+    requires numbered { length shard.old.slots < 2 ^ 64 }
+    requires callable { F.IsAlwaysCallable f }
+    ensures each { Extends (AtFull (Keeps F.FnMut)) from (f, shard.old)
+        (from + min 16 (length shard.old.slots - from)) (result, shard.new) }
+    ensures slots { length shard.new.slots ≡ length shard.old.slots }
+    ensures again { F.IsAlwaysCallable result }
+{
+    let mut f = f;
+    let mut lanes = shard.full_from(from);
+    while let Some(lane) = lanes.first() {
+        f = keep_slot(shard, from + lane, f);
+        lanes = lanes.without(lane);
+    }
     f
 }
 
@@ -63,11 +88,12 @@ pub fn retain_in<K: Eq + Hash + Drop, V: Drop, A: Allocator, F: FnMut(&K, &mut V
     ensures each { Walked (AtFull (Keeps F.FnMut)) (length shard.old.slots) (f, shard.old) (result, shard.new) }
     ensures again { F.IsAlwaysCallable result }
 {
+    let end = shard.slots();
     let mut f = f;
     let mut from = 0;
-    while let Some(slot) = shard.next_from(from) {
-        f = keep_slot(shard, slot, f);
-        from = slot + 1;
+    while from < end {
+        f = keep_sixteen(shard, from, f);
+        from += WIDTH.min(end - from);
     }
     f
 }
@@ -82,6 +108,7 @@ fn alter_slot<K: Eq + Hash, V, A: Allocator, F: FnMut(&K, V) -> V>(
     requires callable { F.IsAlwaysCallable f }
     ensures visit { AtFull (Alters F.FnMut) (f, shard.old) slot (result, shard.new) }
     ensures slots { length shard.new.slots ≡ length shard.old.slots }
+    ensures others { (j : ℕ) → j ≢ slot → at shard.new.slots j ≡ at shard.old.slots j }
     ensures again { F.IsAlwaysCallable result }
 {
     let (key, place) = shard.lend(slot);
@@ -96,6 +123,30 @@ fn alter_slot<K: Eq + Hash, V, A: Allocator, F: FnMut(&K, V) -> V>(
     )
 }
 
+/// Stores what the closure makes of each value in sixteen slots, which are looked at once.
+#[inline(always)]
+fn alter_sixteen<K: Eq + Hash, V, A: Allocator, F: FnMut(&K, V) -> V>(
+    shard: &mut Shard<K, V, A>,
+    from: usize,
+    f: F,
+) -> F
+    requires within { from ≤ length shard.old.slots }
+    requires numbered { length shard.old.slots < 2 ^ 64 }
+    requires callable { F.IsAlwaysCallable f }
+    ensures each { Extends (AtFull (Alters F.FnMut)) from (f, shard.old)
+        (from + min 16 (length shard.old.slots - from)) (result, shard.new) }
+    ensures slots { length shard.new.slots ≡ length shard.old.slots }
+    ensures again { F.IsAlwaysCallable result }
+{
+    let mut f = f;
+    let mut lanes = shard.full_from(from);
+    while let Some(lane) = lanes.first() {
+        f = alter_slot(shard, from + lane, f);
+        lanes = lanes.without(lane);
+    }
+    f
+}
+
 /// Stores what the closure makes of each value.
 ///
 /// It gives the closure back as the calls have left it.
@@ -107,11 +158,12 @@ pub fn alter_each_in<K: Eq + Hash, V, A: Allocator, F: FnMut(&K, V) -> V + Drop>
     ensures each { Walked (AtFull (Alters F.FnMut)) (length shard.old.slots) (f, shard.old) (result, shard.new) }
     ensures again { F.IsAlwaysCallable result }
 {
+    let end = shard.slots();
     let mut f = f;
     let mut from = 0;
-    while let Some(slot) = shard.next_from(from) {
-        f = alter_slot(shard, slot, f);
-        from = slot + 1;
+    while from < end {
+        f = alter_sixteen(shard, from, f);
+        from += WIDTH.min(end - from);
     }
     f
 }
