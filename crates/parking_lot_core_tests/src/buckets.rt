@@ -1,179 +1,185 @@
 //! Buckets of keys: how many there are, what a growth keeps, and what an open section keeps out.
 
-use crate::script::{Answer, BUSY, Call, Line, WRONG, follow, follow_of, outcome};
-use parking_lot_core::{DEFAULT_PARK_TOKEN, Lot, LotFault, RequeueOp, ThreadStatus, UnparkToken};
+use crate::script::{
+    Answer, BUSY, Call, FULL, IS, Line, Play, WAITS, WRONG, follow_each, stands, took,
+};
+use parking_lot_core::{DEFAULT_PARK_TOKEN, Lot, LotFault, RequeueOp, UnparkToken};
 use refusing_heap::{Case, Heap, Refusal, RefusingHeap, Said, Seen, make_in_turn};
+use std::alloc::Global;
 use std::test::Fail;
 
-const WAITS: Answer = Answer::Ended(None);
-
-const IS: Answer = Answer::Is(true);
-
-const INSIDE: Answer = Answer::Stands(Some(ThreadStatus::InSection));
-
-const FULL: Answer = Answer::Refused(LotFault::TooManyThreads);
-
-/// Registers so many threads, retires some of them, and answers how many buckets there are.
-fn buckets_of(lot: &mut Lot, threads: usize, retired: usize) -> Result<usize, LotFault> {
-    for _thread in 0..threads {
+/// Gives so many numbers out, takes some of them back, and answers how many buckets there are.
+fn buckets_of(lot: &mut Lot, numbers: usize, retired: usize) -> Result<usize, LotFault> {
+    for _number in 0..numbers {
         lot.register()?;
     }
-    for thread in 0..retired {
-        lot.retire(thread)?;
+    for number in 0..retired {
+        lot.retire(number)?;
     }
     Ok(lot.buckets())
 }
 
-#[test]
-fn threads_have_buckets(rt: HostRuntime) -> Result<(), Fail> {
-    for (threads, retired, buckets) in [
-        (0, 0, 16),
-        (1, 0, 16),
-        (5, 0, 16),
-        (6, 0, 32),
-        (6, 5, 32),
-        (256, 0, 1024),
-    ] {
-        let count = buckets_of(&mut Lot::new(rt.alloc(), 256, 7)?, threads, retired)?;
-        assert!(rt; count == buckets, "{threads} threads: {count} buckets");
-    }
-    Ok(())
+/// The same of a new lot, whose threads have two numbers each or one.
+fn new_buckets(alloc: Global, wide: bool, numbers: usize, retired: usize) -> Result<usize, Fail> {
+    let made = if wide {
+        Lot::new_wide(alloc, 512, 7)
+    } else {
+        Lot::new(alloc, 256, 7)
+    };
+    Ok(buckets_of(&mut made?, numbers, retired)?)
 }
 
+/// Numbers given out of a lot whose threads have two each or one, how many are taken back, and the buckets then.
+const BUCKETS: &[(bool, usize, usize, usize)] = &[
+    (false, 0, 0, 16),
+    (false, 1, 0, 16),
+    (false, 5, 0, 16),
+    (false, 6, 0, 32),
+    (false, 6, 5, 32),
+    (false, 256, 0, 1024),
+    (true, 10, 0, 16),
+    (true, 11, 0, 32),
+    (true, 12, 0, 32),
+    (true, 512, 0, 1024),
+];
+
 #[test]
-fn two_numbers_are_of_one_thread(rt: HostRuntime) -> Result<(), Fail> {
-    for (numbers, buckets) in [(10, 16), (11, 32), (12, 32), (512, 1024)] {
-        let count = buckets_of(&mut Lot::new_wide(rt.alloc(), 512, 7)?, numbers, 0)?;
-        assert!(rt; count == buckets, "{numbers} numbers: {count} buckets");
+fn threads_have_buckets(rt: HostRuntime) -> Result<(), Fail> {
+    for (wide, numbers, retired, buckets) in BUCKETS {
+        let count = new_buckets(rt.alloc(), *wide, *numbers, *retired)?;
+        assert!(rt;
+            count == *buckets,
+            "{numbers} numbers, wide {wide}: {count} buckets"
+        );
     }
     Ok(())
 }
 
 /// Threads 0 and 1 wait under key 3, and thread 2 under key 19, which is of the same bucket out of 16.
-const ONE_BUCKET: [Line; 3] = [
+const ONE_BUCKET: &[Line] = &[
     (Call::Park(0, 3), WAITS),
     (Call::Park(1, 3), WAITS),
     (Call::Park(2, 19), WAITS),
 ];
 
-#[test]
-fn lists_stay_as_buckets_grow(rt: HostRuntime) -> Result<(), Fail> {
-    let script = [
-        (Call::Buckets, Answer::Number(16)),
-        (Call::Register, Answer::Number(5)),
-        (Call::Buckets, Answer::Number(32)),
-        (Call::IsQueue(3, &[0, 1]), IS),
-        (Call::IsQueue(19, &[2]), IS),
-        (Call::UnparkOne(3, 1), Answer::Unparked(outcome(1, 0, true))),
-        (Call::IsQueue(3, &[1]), IS),
-        (Call::UnparkAll(19, 1), Answer::Number(1)),
-        (Call::Enter(3, 3), Answer::Done),
-        (Call::Enter(4, 19), Answer::Done),
-        (Call::Enter(5, 35), BUSY),
-    ];
-    follow(&rt, 5, &ONE_BUCKET, &script)
-}
+/// Lists stay as buckets grow.
+const GROWN: &[Line] = &[
+    (Call::Buckets, Answer::Number(16)),
+    (Call::Register, Answer::Number(5)),
+    (Call::Buckets, Answer::Number(32)),
+    (Call::IsQueue(3, &[0, 1]), IS),
+    (Call::IsQueue(19, &[2]), IS),
+    (Call::UnparkOne(3, 1), took!(1, 0, true)),
+    (Call::IsQueue(3, &[1]), IS),
+    (Call::UnparkAll(19, 1), Answer::Number(1)),
+    (Call::Enter(3, 3), Answer::Done),
+    (Call::Enter(4, 19), Answer::Done),
+    (Call::Enter(5, 35), BUSY),
+];
+
+/// A section keeps others out of its bucket.
+const KEPT_OUT: &[Line] = &[
+    (Call::Enter(3, 3), Answer::Done),
+    (Call::Enter(4, 19), BUSY),
+    (Call::Park(4, 19), BUSY),
+    (Call::UnparkOne(19, 1), BUSY),
+    (Call::UnparkAll(19, 1), BUSY),
+    (Call::UnparkFilter(19, 1), BUSY),
+    (Call::ComeBack(2, 19), BUSY),
+    (Call::Enter(4, 4), Answer::Done),
+    (Call::Status(3), stands!(InSection)),
+    (Call::Status(4), stands!(InSection)),
+    (Call::TakeNext(3), Answer::Taken(Some(0))),
+    (Call::Append(4, false), Answer::Done),
+    (Call::Store(3, 1), Answer::Done),
+    (Call::Leave(3), Answer::Done),
+    (Call::UnparkAll(19, 1), Answer::Number(1)),
+    (Call::UnparkAll(4, 1), BUSY),
+    (Call::Leave(4), Answer::Done),
+    (Call::UnparkAll(4, 1), Answer::Number(1)),
+    (Call::IsQueue(3, &[1]), IS),
+];
+
+/// Buckets grow in no section.
+const GROWN_LATER: &[Line] = &[
+    (Call::Enter(3, 4), Answer::Done),
+    (Call::Register, Answer::Number(4)),
+    (Call::Register, BUSY),
+    (Call::Status(5), Answer::Stands(None)),
+    (Call::Buckets, Answer::Number(16)),
+    (Call::Leave(3), Answer::Done),
+    (Call::Register, Answer::Number(5)),
+    (Call::Buckets, Answer::Number(32)),
+    (Call::Enter(3, 4), Answer::Done),
+    (Call::Register, Answer::Number(6)),
+    (Call::Register, Answer::Number(7)),
+    (Call::Register, FULL),
+];
+
+/// That there are too many threads is told first.
+const FULL_FIRST: &[Line] = &[
+    (Call::Enter(3, 4), Answer::Done),
+    (Call::Register, FULL),
+    (Call::Leave(3), Answer::Done),
+    (Call::Register, FULL),
+];
+
+const ALL: RequeueOp = RequeueOp::RequeueAll;
+
+/// A requeue enters two buckets.
+const TWO_ENTERED: &[Line] = &[
+    (Call::Enter(3, 4), Answer::Done),
+    (Call::Requeue(3, 4, ALL), BUSY),
+    (Call::Requeue(3, 20, ALL), BUSY),
+    (Call::Requeue(20, 3, ALL), BUSY),
+    (Call::RequeueCounting(3, 20, ALL), BUSY),
+    (Call::IsQueue(3, &[0, 1]), IS),
+    (Call::Requeue(3, 19, ALL), took!(0, 2, false)),
+    (Call::IsQueue(3, &[]), IS),
+    (Call::IsQueue(19, &[2, 0, 1]), IS),
+];
+
+/// Thread 1 was moved from key 5 to key 3, and taken there, before its deadline.
+const MOVED_AND_TAKEN: &[Line] = &[
+    (Call::ParkTimed(1, 5), WAITS),
+    (
+        Call::Requeue(5, 3, RequeueOp::RequeueOne),
+        took!(0, 1, false),
+    ),
+    (Call::Enter(0, 3), Answer::Done),
+    (Call::TakeNext(0), Answer::Taken(Some(1))),
+    (Call::Store(0, 4), Answer::Done),
+    (Call::Leave(0), Answer::Done),
+    (Call::Deadline(1), Answer::Done),
+];
+
+/// A taken thread comes back by the bucket of its list.
+const COMES_BACK: &[Line] = &[
+    (Call::ComeBack(1, 5), WRONG),
+    (Call::ComeBack(1, 19), WRONG),
+    (Call::Enter(2, 19), Answer::Done),
+    (Call::ComeBack(1, 3), BUSY),
+    (Call::Resume(1), BUSY),
+    (Call::Leave(2), Answer::Done),
+    (Call::Enter(2, 5), Answer::Done),
+    (Call::ComeBack(1, 3), Answer::Done),
+    (Call::Enter(0, 19), BUSY),
+    (Call::Quit(1), Answer::Left(Some(UnparkToken(4)))),
+    (Call::Leave(1), Answer::Done),
+];
+
+const PLAYS: &[Play] = &[
+    ("grown", 8, 5, ONE_BUCKET, GROWN),
+    ("kept out", 8, 5, ONE_BUCKET, KEPT_OUT),
+    ("grown later", 8, 4, ONE_BUCKET, GROWN_LATER),
+    ("two entered", 8, 5, ONE_BUCKET, TWO_ENTERED),
+    ("full first", 5, 5, ONE_BUCKET, FULL_FIRST),
+    ("comes back", 8, 3, MOVED_AND_TAKEN, COMES_BACK),
+];
 
 #[test]
-fn a_section_keeps_others_out_of_its_bucket(rt: HostRuntime) -> Result<(), Fail> {
-    let script = [
-        (Call::Enter(3, 3), Answer::Done),
-        (Call::Enter(4, 19), BUSY),
-        (Call::Park(4, 19), BUSY),
-        (Call::UnparkOne(19, 1), BUSY),
-        (Call::UnparkAll(19, 1), BUSY),
-        (Call::UnparkFilter(19, 1), BUSY),
-        (Call::ComeBack(2, 19), BUSY),
-        (Call::Enter(4, 4), Answer::Done),
-        (Call::Status(3), INSIDE),
-        (Call::Status(4), INSIDE),
-        (Call::TakeNext(3), Answer::Taken(Some(0))),
-        (Call::Append(4, false), Answer::Done),
-        (Call::Store(3, 1), Answer::Done),
-        (Call::Leave(3), Answer::Done),
-        (Call::UnparkAll(19, 1), Answer::Number(1)),
-        (Call::UnparkAll(4, 1), BUSY),
-        (Call::Leave(4), Answer::Done),
-        (Call::UnparkAll(4, 1), Answer::Number(1)),
-        (Call::IsQueue(3, &[1]), IS),
-    ];
-    follow(&rt, 5, &ONE_BUCKET, &script)
-}
-
-#[test]
-fn buckets_grow_in_no_section(rt: HostRuntime) -> Result<(), Fail> {
-    let script = [
-        (Call::Enter(3, 4), Answer::Done),
-        (Call::Register, Answer::Number(4)),
-        (Call::Register, BUSY),
-        (Call::Status(5), Answer::Stands(None)),
-        (Call::Buckets, Answer::Number(16)),
-        (Call::Leave(3), Answer::Done),
-        (Call::Register, Answer::Number(5)),
-        (Call::Buckets, Answer::Number(32)),
-        (Call::Enter(3, 4), Answer::Done),
-        (Call::Register, Answer::Number(6)),
-        (Call::Register, Answer::Number(7)),
-        (Call::Register, FULL),
-    ];
-    follow(&rt, 4, &ONE_BUCKET, &script)
-}
-
-#[test]
-fn too_many_threads_is_told_first(rt: HostRuntime) -> Result<(), Fail> {
-    let script = [
-        (Call::Enter(3, 4), Answer::Done),
-        (Call::Register, FULL),
-        (Call::Leave(3), Answer::Done),
-        (Call::Register, FULL),
-    ];
-    follow_of(&rt, 5, 5, &ONE_BUCKET, &script)
-}
-
-#[test]
-fn a_requeue_enters_two_buckets(rt: HostRuntime) -> Result<(), Fail> {
-    let all = RequeueOp::RequeueAll;
-    let moved = Answer::Unparked(outcome(0, 2, false));
-    let script = [
-        (Call::Enter(3, 4), Answer::Done),
-        (Call::Requeue(3, 4, all), BUSY),
-        (Call::Requeue(3, 20, all), BUSY),
-        (Call::Requeue(20, 3, all), BUSY),
-        (Call::RequeueCounting(3, 20, all), BUSY),
-        (Call::IsQueue(3, &[0, 1]), IS),
-        (Call::Requeue(3, 19, all), moved),
-        (Call::IsQueue(3, &[]), IS),
-        (Call::IsQueue(19, &[2, 0, 1]), IS),
-    ];
-    follow(&rt, 5, &ONE_BUCKET, &script)
-}
-
-#[test]
-fn a_taken_thread_comes_back_by_the_bucket_of_its_list(rt: HostRuntime) -> Result<(), Fail> {
-    let moved = Answer::Unparked(outcome(0, 1, false));
-    let before = [
-        (Call::ParkTimed(1, 5), WAITS),
-        (Call::Requeue(5, 3, RequeueOp::RequeueOne), moved),
-        (Call::Enter(0, 3), Answer::Done),
-        (Call::TakeMarked(0), Answer::Taken(Some(1))),
-        (Call::Store(0, 4), Answer::Done),
-        (Call::Leave(0), Answer::Done),
-        (Call::Deadline(1), Answer::Done),
-    ];
-    let script = [
-        (Call::ComeBack(1, 5), WRONG),
-        (Call::ComeBack(1, 19), WRONG),
-        (Call::Enter(2, 19), Answer::Done),
-        (Call::ComeBack(1, 3), BUSY),
-        (Call::Resume(1), BUSY),
-        (Call::Leave(2), Answer::Done),
-        (Call::Enter(2, 5), Answer::Done),
-        (Call::ComeBack(1, 3), Answer::Done),
-        (Call::Enter(0, 19), BUSY),
-        (Call::Quit(1), Answer::Left(Some(UnparkToken(4)))),
-        (Call::Leave(1), Answer::Done),
-    ];
-    follow(&rt, 3, &before, &script)
+fn sections_and_growths_are_of_buckets(rt: HostRuntime) -> Result<(), Fail> {
+    follow_each(&rt, PLAYS)
 }
 
 /// The thread that stands there in a key's list.
@@ -234,17 +240,19 @@ impl<R: Drop> Case<R> for Next {
     }
 }
 
+const NEXTS: &[Next] = &[
+    Next(5, 16, 32),
+    Next(8, 32, 32),
+    Next(10, 32, 64),
+    Next(16, 64, 64),
+];
+
 #[test]
 fn a_refused_growth_changes_nothing(rt: HostRuntime) {
-    for (next, growths) in [
-        (Next(5, 16, 32), 3),
-        (Next(8, 32, 32), 3),
-        (Next(10, 32, 64), 3),
-        (Next(16, 64, 64), 3),
-    ] {
-        let refused = make_in_turn(rt, rt.alloc(), next).unwrap_or(0);
+    for next in NEXTS {
+        let refused = make_in_turn(rt, rt.alloc(), *next).unwrap_or(0);
         let threads = next.0;
-        assert!(rt; refused == growths, "behind {threads}: {refused} growths");
+        assert!(rt; refused == 3, "behind {threads}: {refused} growths");
     }
 }
 

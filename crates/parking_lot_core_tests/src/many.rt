@@ -1,8 +1,12 @@
 //! Threads that sleep under many keys, whose lists stand in one bucket or in several, and buckets that become more.
-use crate::sleepers::{TURNS, has_come, parked, sleeps, unparked};
+use crate::sleepers::{TURNS, are_told, has_come, parked, sleep_each, unparked};
+use crate::threads::admitted;
+use crate::trials::{Trial, goes_well};
+use parking_lot_core::RequeueOp::{Abort, RequeueAll, RequeueOne, UnparkOne, UnparkOneRequeueRest};
 use parking_lot_core::{
-    FilterOp, LotFault, ParkResult, ParkToken, ParkingLot, RequeueOp, ThreadData, UnparkToken,
-    park, thread_yield, unpark_all, unpark_filter, unpark_one, unpark_requeue,
+    DEFAULT_PARK_TOKEN, FilterOp, LotFault, ParkResult, ParkToken, ParkingLot, RequeueOp,
+    ThreadData, UnparkToken, park, thread_yield, unpark_all, unpark_filter, unpark_one,
+    unpark_requeue,
 };
 use refusing_heap::{Heap, Refusal, RefusingHeap, Said, Seen};
 use std::alloc::{AllocError, Allocator, Global};
@@ -26,24 +30,47 @@ const OTHERS: usize = 90;
 
 const BETWEEN: usize = 1_000;
 
-/// The key of a pair's round. Keys of different pairs have one bucket, until there are more.
-fn key_of(pair: usize, round: usize) -> usize {
-    let each = KEYS / PAIRS;
-    pair.wrapping_mul(each).wrapping_add(round % each)
+/// So many keys from one on, taken in turn.
+#[derive(Clone, Copy)]
+struct Keys {
+    first: usize,
+    count: usize,
 }
 
-/// Parks again and again, and answers whether each park got the token of its round.
-fn parked_each<R: Wait + Clock>(lot: &ParkingLot<R>, pair: usize, over: &AtomicUsize) -> bool {
+impl Keys {
+    /// The key of a round.
+    fn at(self, round: usize) -> usize {
+        let behind = round.checked_rem(self.count).unwrap_or(0);
+        self.first.wrapping_add(behind)
+    }
+}
+
+/// Parks so often, and answers whether each park got the token of its round.
+fn parked_each<R: Wait + Clock>(
+    lot: &ParkingLot<R>,
+    keys: Keys,
+    rounds: usize,
+    over: &AtomicUsize,
+) -> bool {
     let Ok(mut me) = lot.thread_data() else {
         return false;
     };
-    for round in 0..ROUNDS {
-        let ended = parked(lot, &mut me, key_of(pair, round), over);
+    for round in 0..rounds {
+        let ended = parked(lot, &mut me, keys.at(round), DEFAULT_PARK_TOKEN, over);
         if ended != Some(ParkResult::Unparked(UnparkToken(round))) {
             return false;
         }
     }
     true
+}
+
+/// The keys of a pair. Keys of different pairs have one bucket, until there are more.
+fn keys_of(pair: usize) -> Keys {
+    let count = KEYS / PAIRS;
+    Keys {
+        first: pair.wrapping_mul(count),
+        count,
+    }
 }
 
 /// Moves a sleeper to another key, as soon as there is one, and unparks it there.
@@ -60,28 +87,36 @@ fn unparked_elsewhere<R: Wait>(lot: &ParkingLot<R>, key: usize, token: usize) ->
     false
 }
 
-/// Wakes the sleeper of a round, each second time under another key.
-fn woken<R: Wait>(lot: &ParkingLot<R>, key: usize, round: usize) -> bool {
-    if round % 2 == 0 {
-        unparked(lot, key, round)
+/// Wakes the sleeper of a round, of many keys each second time under another key.
+fn woken<R: Wait>(lot: &ParkingLot<R>, keys: Keys, round: usize) -> bool {
+    if keys.count == 1 || round % 2 == 0 {
+        unparked(lot, keys.at(round), round)
     } else {
-        unparked_elsewhere(lot, key, round)
+        unparked_elsewhere(lot, keys.at(round), round)
     }
+}
+
+/// Wakes all of any key, and answers how many there were.
+fn woken_of_all<R: Wait>(lot: &ParkingLot<R>) -> usize {
+    let mut woken = 0usize;
+    for key in 0..2 * KEYS {
+        woken = woken.wrapping_add(unpark_all(lot, key, UnparkToken(ROUNDS)));
+    }
+    woken
 }
 
 /// Wakes a sleeper so often, with the number of the round. Where it doesn't come it says that it is over.
 fn unparked_each<R: Wait>(
     lot: &ParkingLot<R>,
-    pair: usize,
+    keys: Keys,
+    rounds: usize,
     over: &AtomicUsize,
     done: &AtomicUsize,
 ) -> bool {
-    for round in 0..ROUNDS {
-        if !woken(lot, key_of(pair, round), round) {
+    for round in 0..rounds {
+        if !woken(lot, keys, round) {
             over.store(1, Ordering::SeqCst);
-            for key in 0..2 * KEYS {
-                unpark_all(lot, key, UnparkToken(ROUNDS));
-            }
+            woken_of_all(lot);
             return false;
         }
         done.fetch_add(1, Ordering::SeqCst);
@@ -106,7 +141,7 @@ fn are_woken(done: &AtomicUsize, over: &AtomicUsize, count: usize) -> bool {
 /// Registers threads while others sleep and are woken.
 fn registered<R: Wait>(lot: &ParkingLot<R>, over: &AtomicUsize, done: &AtomicUsize) -> bool {
     for number in 0..OTHERS {
-        if !are_woken(done, over, number.wrapping_mul(BETWEEN)) || lot.thread_data().is_err() {
+        if !are_woken(done, over, number.wrapping_mul(BETWEEN)) || admitted(lot).is_err() {
             return false;
         }
     }
@@ -121,43 +156,40 @@ fn takes_part<R: Wait + Clock>(
     done: &AtomicUsize,
 ) -> bool {
     if number < PAIRS {
-        parked_each(lot, number, over)
+        parked_each(lot, keys_of(number), ROUNDS, over)
     } else if number < 2 * PAIRS {
-        unparked_each(lot, number - PAIRS, over, done)
+        unparked_each(lot, keys_of(number - PAIRS), ROUNDS, over, done)
     } else {
         registered(lot, over, done)
     }
 }
 
-/// All take part at one time. Answers what each answered.
-fn all_take_part<R: Wait + Threads + Clock + Sync>(
+/// One thread is woken a hundred thousand times under one key, as often as it parks, and at the end nobody is left.
+pub fn is_none_lost<R: Wait + Threads + Clock + Sync>(rt: &R, lot: &ParkingLot<R>) -> bool {
+    let keys = Keys { first: 3, count: 1 };
+    let over = AtomicUsize::new(0);
+    let done = AtomicUsize::new(0);
+    let (slept, woke) = thread::join(
+        rt,
+        || parked_each(lot, keys, 100_000, &over),
+        || unparked_each(lot, keys, 100_000, &over, &done),
+    );
+    slept & woke & (unpark_all(lot, 3, UnparkToken(0)) == 0)
+}
+
+/// None is lost while buckets grow.
+pub fn none_is_lost<R: Wait + Threads + Clock + Sync>(
     rt: &R,
     alloc: Global,
     lot: &ParkingLot<R>,
-    over: &AtomicUsize,
-    done: &AtomicUsize,
-) -> Result<Vec<bool>, AllocError> {
-    thread::map_indices(
-        rt,
-        alloc,
-        2 * PAIRS + 1,
-        &|number| takes_part(lot, number, over, done),
-    )
-}
-
-#[test]
-fn none_is_lost_while_buckets_grow(rt: HostRuntime) -> Result<(), Fail> {
-    let lot = ParkingLot::new(rt, rt.alloc(), 100, 7)?;
+) -> Result<bool, AllocError> {
     let over = AtomicUsize::new(0);
     let done = AtomicUsize::new(0);
-    let ended = all_take_part(&rt, rt.alloc(), &lot, &over, &done)?;
-    let mut left = 0usize;
-    for key in 0..2 * KEYS {
-        left = left.wrapping_add(unpark_all(&lot, key, UnparkToken(0)));
-    }
+    let part = |number| takes_part(lot, number, &over, &done);
+    let ended = thread::map_indices(rt, alloc, 2 * PAIRS + 1, &part)?;
     let are_right = ended.iter().all(|is_right| *is_right);
-    assert!(rt; are_right & (left == 0) & (done.load(Ordering::SeqCst) == PAIRS * ROUNDS));
-    Ok(())
+    let is_done = done.load(Ordering::SeqCst) == PAIRS * ROUNDS;
+    Ok(are_right & is_done & (woken_of_all(lot) == 0))
 }
 
 /// A key's list: the digits are its waiters' tokens, each and one.
@@ -214,7 +246,7 @@ fn make<R: Wait>(lot: &ParkingLot<R>, call: Call, token: usize) {
         }
         Call::Register(count) => {
             for _thread in 0..count {
-                let _ = lot.thread_data();
+                let _ = admitted(lot);
             }
         }
     }
@@ -225,20 +257,16 @@ const STEPS: [(Call, usize, [usize; 4]); 10] = [
     (Call::One(3), 10, [2, 34, 5, 6]),
     (Call::Register(40), 0, [2, 34, 5, 6]),
     (
-        Call::Requeue(67, 4, RequeueOp::UnparkOneRequeueRest),
+        Call::Requeue(67, 4, UnparkOneRequeueRest),
         11,
         [2, 0, 54, 6],
     ),
-    (Call::Requeue(4, 67, RequeueOp::RequeueOne), 0, [2, 5, 4, 6]),
-    (
-        Call::Requeue(3, 67, RequeueOp::RequeueAll),
-        0,
-        [0, 52, 4, 6],
-    ),
-    (Call::Requeue(5, 4, RequeueOp::Abort), 0, [0, 52, 4, 6]),
+    (Call::Requeue(4, 67, RequeueOne), 0, [2, 5, 4, 6]),
+    (Call::Requeue(3, 67, RequeueAll), 0, [0, 52, 4, 6]),
+    (Call::Requeue(5, 4, Abort), 0, [0, 52, 4, 6]),
     (Call::Filter(67, 1), 13, [0, 5, 4, 6]),
     (Call::All(4), 14, [0, 5, 0, 6]),
-    (Call::Requeue(5, 3, RequeueOp::UnparkOne), 15, [0, 5, 0, 0]),
+    (Call::Requeue(5, 3, UnparkOne), 15, [0, 5, 0, 0]),
     (Call::All(67), 16, [0, 0, 0, 0]),
 ];
 
@@ -257,68 +285,22 @@ fn wrong_step<R: Wait>(lot: &ParkingLot<R>, joined: &AtomicUsize) -> Option<usiz
     wrong
 }
 
-/// Whether the six sleepers were told these tokens.
-fn are_told(tokens: Result<Vec<Option<UnparkToken>>, AllocError>, told: [usize; 6]) -> bool {
-    let Ok(tokens) = tokens else {
-        return false;
-    };
-    let mut are_right = tokens.len() == 6;
-    for (token, wanted) in tokens.iter().zip(told.iter()) {
-        are_right = are_right & (*token == Some(UnparkToken(*wanted)));
-    }
-    are_right
-}
+/// The keys under which six sleep.
+const SLEEPERS: [usize; 6] = [3, 3, 67, 67, 4, 5];
 
-/// The key under which a sleeper sleeps.
-fn key_of_sleeper(number: usize) -> usize {
-    match number {
-        0 | 1 => 3,
-        2 | 3 => 67,
-        4 => 4,
-        _ => 5,
-    }
-}
-
-/// Six sleep. Answers what each was told.
-fn six_sleep<R: Wait + Threads + Clock + Sync>(
+/// Whether neighbouring lists stay as they are to while six sleep and the calls are made, and each is told its token.
+pub fn lists_stay<R: Wait + Threads + Clock + Sync>(
     rt: &R,
     alloc: Global,
     lot: &ParkingLot<R>,
-    joined: &AtomicUsize,
-) -> Result<Vec<Option<UnparkToken>>, AllocError> {
-    thread::map_indices(
-        rt,
-        alloc,
-        6,
-        &|number| sleeps(lot, joined, number, key_of_sleeper(number)),
-    )
-}
-
-/// The six sleep while the calls are made. Answers what they were told, and the first step that went wrong.
-fn stepped<R: Wait + Threads + Clock + Sync>(
-    rt: &R,
-    alloc: Global,
-    lot: &ParkingLot<R>,
-    joined: &AtomicUsize,
-) -> (Result<Vec<Option<UnparkToken>>, AllocError>, Option<usize>) {
-    thread::join(
-        rt,
-        || six_sleep(rt, alloc, lot, joined),
-        || wrong_step(lot, joined),
-    )
-}
-
-#[test]
-fn neighbouring_lists_stay(rt: HostRuntime) -> Result<(), Fail> {
-    let lot = ParkingLot::new(rt, rt.alloc(), 46, 7)?;
+) -> bool {
     let joined = AtomicUsize::new(0);
-    let (tokens, wrong) = stepped(&rt, rt.alloc(), &lot, &joined);
-    let step = wrong.unwrap_or(STEPS.len());
-    assert!(rt;
-        wrong.is_none() & are_told(tokens, [10, 13, 11, 14, 16, 15]),
-        "step {step}"
+    let (tokens, wrong) = thread::join(
+        rt,
+        || sleep_each(rt, alloc, lot, &joined, &SLEEPERS),
+        || wrong_step(lot, &joined),
     );
-    Ok(())
+    wrong.is_none() & are_told(tokens, &[10, 13, 11, 14, 16, 15])
 }
 
 /// Parks under key 3 until a moment that is past, and is moved to another key before. Answers how the park ended, under
@@ -326,9 +308,9 @@ fn neighbouring_lists_stay(rt: HostRuntime) -> Result<(), Fail> {
 fn moved_then_late<R: Wait + Clock>(
     rt: &R,
     lot: &ParkingLot<R>,
-    past: Instant,
     other: usize,
 ) -> Option<(ParkResult, usize, bool)> {
+    let past = Instant::now(rt).ok()?;
     let mut me = lot.thread_data().ok()?;
     let mut told = (0, false);
     let ended = park(
@@ -352,26 +334,29 @@ fn moved_then_late<R: Wait + Clock>(
     Some((ended, told.0, told.1))
 }
 
+/// A moved thread gives up at its new key.
+pub fn gives_up<R: Wait + Clock>(rt: &R, lot: &ParkingLot<R>, other: usize) -> bool {
+    let is_late = moved_then_late(rt, lot, other) == Some((ParkResult::TimedOut, other, true));
+    is_late & (list(lot, 3) == 0) & (list(lot, other) == 0)
+}
+
 #[test]
-fn a_moved_thread_gives_up_at_its_new_key(rt: HostRuntime) -> Result<(), Fail> {
-    let past = Instant::now(&rt)?;
-    let lot = ParkingLot::new(rt, rt.alloc(), 4, 7)?;
-    for other in [4, 19] {
-        let ended = moved_then_late(&rt, &lot, past, other);
-        let lists = (list(&lot, 3), list(&lot, other));
-        assert!(rt;
-            ended == Some((ParkResult::TimedOut, other, true)) && lists == (0, 0),
-            "moved to {other}"
-        );
-    }
+fn a_hundred_thousand_unparks_are_not_lost(rt: HostRuntime) -> Result<(), Fail> {
+    assert!(rt; goes_well(rt, rt.alloc(), 2, Trial::HundredThousand)?);
     Ok(())
 }
 
-fn admitted<R: Wait>(lot: &ParkingLot<R, &Heap>) -> Result<usize, LotFault> {
-    match lot.thread_data() {
-        Ok(me) => Ok(me.thread_number()),
-        Err(fault) => Err(fault),
-    }
+#[test]
+fn none_is_lost_while_buckets_grow(rt: HostRuntime) -> Result<(), Fail> {
+    assert!(rt; goes_well(rt, rt.alloc(), 100, Trial::Grows)?);
+    Ok(())
+}
+
+#[test]
+fn lists_of_a_bucket_stay(rt: HostRuntime) -> Result<(), Fail> {
+    assert!(rt; goes_well(rt, rt.alloc(), 46, Trial::Neighbours)?);
+    assert!(rt; goes_well(rt, rt.alloc(), 4, Trial::Moved)?);
+    Ok(())
 }
 
 /// Registers the next. Where it is refused the sleeper stands in its list, and it is registered then. The sleeper is
@@ -408,28 +393,6 @@ fn register_beside<R: Wait>(
     seen
 }
 
-/// Sleeps under key 3, as long as it isn't over.
-fn sleep_here<'h, R: Wait + Clock>(
-    lot: &ParkingLot<R, &'h Heap>,
-    me: &mut ThreadData<&'h Heap>,
-    over: &AtomicUsize,
-) -> Option<ParkResult> {
-    let going = 0usize;
-    if !lot.same_lot(me) {
-        return None;
-    }
-    Some(park(
-        lot,
-        me,
-        3,
-        || over.load(Ordering::SeqCst) == going,
-        || {},
-        |_, _| {},
-        ParkToken(1),
-        None::<(Instant, &R)>,
-    ))
-}
-
 /// One sleeps, and the next is registered beside it.
 fn both_go_on<'h, R: Wait + Threads + Clock + Sync>(
     rt: &R,
@@ -441,27 +404,39 @@ fn both_go_on<'h, R: Wait + Threads + Clock + Sync>(
     let over = AtomicUsize::new(0);
     thread::join(
         rt,
-        || sleep_here(lot, me, &over),
+        || parked(lot, me, 3, ParkToken(1), &over),
         || register_beside(heap, lot, threads, &over),
     )
 }
 
-/// A registration behind so many, in this memory, while one of them sleeps under key 3.
-fn run_beside<R: Wait + Threads + Clock + Sync + Copy + Drop>(
-    rt: R,
+/// The same behind so many registrations, the sleeper's among them.
+fn run_beside<'h, R: Wait + Threads + Clock + Sync>(
+    rt: &R,
     heap: &Heap,
+    lot: &ParkingLot<R, &'h Heap>,
     threads: usize,
 ) -> Option<Seen> {
-    let lot = ParkingLot::new(rt, heap, 40, 7).ok()?;
     let mut me = lot.thread_data().ok()?;
     for _thread in 1..threads {
-        admitted(&lot).ok()?;
+        admitted(lot).ok()?;
     }
-    let (ended, seen) = both_go_on(&rt, heap, &lot, &mut me, threads);
+    let (ended, seen) = both_go_on(rt, heap, lot, &mut me, threads);
     if ended == Some(ParkResult::Unparked(UnparkToken(42))) {
         seen
     } else {
         None
+    }
+}
+
+/// The same in this memory.
+fn run_in<R: Wait + Threads + Clock + Sync + Copy + Drop>(
+    rt: R,
+    heap: &Heap,
+    threads: usize,
+) -> Option<Seen> {
+    match ParkingLot::new(rt, heap, 40, 7) {
+        Ok(lot) => run_beside(&rt, heap, &lot, threads),
+        Err(_) => None,
     }
 }
 
@@ -471,26 +446,22 @@ fn run_in_turn<R: Wait + Threads + Clock + Sync + Copy + Drop>(
     alloc: Global,
     threads: usize,
 ) -> Option<u64> {
-    let seen = run_beside(rt, &RefusingHeap::new(alloc, Refusal::Never), threads)?;
-    if !seen.stood {
-        return None;
-    }
+    let seen = run_in(rt, &RefusingHeap::new(alloc, Refusal::Never), threads)?;
     let growths = seen.behind.saturating_sub(seen.before);
     for growth in 0..growths {
         let number = seen.before.saturating_add(growth).saturating_add(1);
         let heap = RefusingHeap::new(alloc, Refusal::Once(number));
-        let stood = run_beside(rt, &heap, threads)?.stood;
-        if !stood || heap.refused() != 1 {
+        if !run_in(rt, &heap, threads)?.stood || heap.refused() != 1 {
             return None;
         }
     }
-    Some(growths)
+    if seen.stood { Some(growths) } else { None }
 }
 
 #[test]
 fn a_refused_growth_leaves_a_sleeper(rt: HostRuntime) {
-    for (threads, growths) in [(1, 1), (5, 2), (10, 2), (16, 3)] {
-        let refused = run_in_turn(rt, rt.alloc(), threads).unwrap_or(0);
-        assert!(rt; refused == growths, "behind {threads}: {refused} growths");
+    for (threads, growths) in &[(1, 1), (5, 2), (10, 2), (16, 3)] {
+        let refused = run_in_turn(rt, rt.alloc(), *threads).unwrap_or(0);
+        assert!(rt; refused == *growths, "behind {threads}: {refused} growths");
     }
 }

@@ -1,44 +1,25 @@
 //! Sizes, participants and sleeps of an exclusive lot.
 
-use crate::script::{Answer, Call, WRONG, follow, outcome};
-use parking_lot_core::{Lot, LotFault, ParkResult, SizeFault, ThreadStatus, UnparkToken};
+use crate::script::{
+    Answer, Call, FULL, IS, Line, Play, WAITS, WRONG, follow_each, stands, took, woken,
+};
+use parking_lot_core::{Lot, LotFault, ParkResult, SizeFault, UnparkToken};
 use std::process::Abort;
 use std::test::Fail;
 
-const WAITS: Answer = Answer::Ended(None);
-
-const IS: Answer = Answer::Is(true);
-
-const RUNS: Answer = Answer::Stands(Some(ThreadStatus::Running));
-
-const LATE: Answer = Answer::Stands(Some(ThreadStatus::PastDeadline));
+const SIZES: &[(usize, Option<SizeFault>)] = &[
+    (0, Some(SizeFault::BadSize)),
+    (1, None),
+    (65_536, None),
+    (65_537, Some(SizeFault::BadSize)),
+];
 
 #[test]
 fn sizes_are_limited(rt: HostRuntime) {
-    for (size, fault) in [
-        (0, Some(SizeFault::BadSize)),
-        (1, None),
-        (65_536, None),
-        (65_537, Some(SizeFault::BadSize)),
-    ] {
-        let made = Lot::new(rt.alloc(), size, 7).err();
-        assert!(rt; made == fault, "{size} threads");
+    for (size, fault) in SIZES {
+        let made = Lot::new(rt.alloc(), *size, 7).err();
+        assert!(rt; made == *fault, "{size} threads");
     }
-}
-
-#[test]
-fn numbers_are_given_out_again(rt: HostRuntime) -> Result<(), Fail> {
-    let full = Answer::Refused(LotFault::TooManyThreads);
-    let script = [
-        (Call::Register, Answer::Number(6)),
-        (Call::Register, Answer::Number(7)),
-        (Call::Register, full),
-        (Call::Retire(0), Answer::Done),
-        (Call::Retire(0), WRONG),
-        (Call::Status(0), Answer::Stands(None)),
-        (Call::Register, Answer::Number(0)),
-    ];
-    follow(&rt, 6, &[], &script)
 }
 
 #[test]
@@ -50,97 +31,97 @@ fn lots_are_told_apart(rt: HostRuntime) -> Result<(), Fail> {
     Ok(())
 }
 
-#[test]
-fn resources_are_counted(rt: HostRuntime) -> Result<(), Fail> {
-    let script = [
-        (Call::Acquire(1, 9), Answer::Done),
-        (Call::Acquire(1, 9), Answer::Done),
-        (Call::Release(1, 9), Answer::Done),
-        (Call::Release(1, 4), Answer::Done),
-        (Call::AreResources(1, &[9]), IS),
-        (Call::Acquire(2, 9), WRONG),
-        (Call::Release(2, 9), WRONG),
-        (Call::AreResources(2, &[]), WRONG),
-        (Call::Retire(1), Answer::Done),
-        (Call::Register, Answer::Number(1)),
-        (Call::AreResources(1, &[]), IS),
-    ];
-    follow(&rt, 2, &[], &script)
-}
+/// Numbers are given out again.
+const NUMBERS: &[Line] = &[
+    (Call::Register, Answer::Number(6)),
+    (Call::Register, Answer::Number(7)),
+    (Call::Register, FULL),
+    (Call::Retire(0), Answer::Done),
+    (Call::Retire(0), WRONG),
+    (Call::Status(0), Answer::Stands(None)),
+    (Call::Register, Answer::Number(0)),
+];
+
+/// Resources are counted.
+const RESOURCES: &[Line] = &[
+    (Call::Acquire(1, 9), Answer::Done),
+    (Call::Acquire(1, 9), Answer::Done),
+    (Call::Release(1, 9), Answer::Done),
+    (Call::Release(1, 4), Answer::Done),
+    (Call::AreResources(1, &[9]), IS),
+    (Call::Acquire(2, 9), WRONG),
+    (Call::Release(2, 9), WRONG),
+    (Call::AreResources(2, &[]), WRONG),
+    (Call::Retire(1), Answer::Done),
+    (Call::Register, Answer::Number(1)),
+    (Call::AreResources(1, &[]), IS),
+];
+
+/// A thread is unparked with a token.
+const UNPARKED: &[Line] = &[
+    (Call::Park(0, 3), WAITS),
+    (
+        Call::Status(0),
+        stands!(Waiting {
+            key: 3,
+            timed: false
+        }),
+    ),
+    (Call::Park(0, 3), WRONG),
+    (Call::UnparkOne(3, 42), took!(1, 0, false)),
+    (Call::Status(0), stands!(Taken(UnparkToken(42)))),
+    (Call::Resume(0), woken!(42)),
+    (Call::Status(0), stands!(Running)),
+];
+
+/// An invalid park leaves the list.
+const INVALID: &[Line] = &[
+    (
+        Call::ParkInvalid(0, 3),
+        Answer::Ended(Some(ParkResult::Invalid)),
+    ),
+    (Call::IsQueue(3, &[]), IS),
+    (Call::Status(0), stands!(Running)),
+];
+
+/// A deadline ends a timed sleep.
+const TIMED_OUT: &[Line] = &[
+    (Call::Deadline(0), WRONG),
+    (Call::Park(1, 3), WAITS),
+    (Call::Deadline(1), WRONG),
+    (Call::ParkTimed(0, 3), WAITS),
+    (Call::Resume(0), WRONG),
+    (Call::Deadline(0), Answer::Done),
+    (Call::Status(0), stands!(PastDeadline)),
+    (Call::Deadline(0), WRONG),
+    (
+        Call::Resume(0),
+        Answer::Resumed(ParkResult::TimedOut, Some((3, false))),
+    ),
+    (Call::IsQueue(3, &[1]), IS),
+];
+
+/// A late thread that was taken is unparked.
+const TAKEN_LATE: &[Line] = &[
+    (Call::ParkTimed(0, 3), WAITS),
+    (Call::Deadline(0), Answer::Done),
+    (Call::UnparkOne(3, 5), took!(1, 0, false)),
+    (Call::Status(0), stands!(PastDeadline)),
+    (Call::Resume(0), woken!(5)),
+];
+
+const PLAYS: &[Play] = &[
+    ("numbers", 8, 6, &[], NUMBERS),
+    ("resources", 8, 2, &[], RESOURCES),
+    ("unparked", 8, 1, &[], UNPARKED),
+    ("invalid", 8, 1, &[], INVALID),
+    ("timed out", 8, 2, &[], TIMED_OUT),
+    ("taken late", 8, 1, &[], TAKEN_LATE),
+];
 
 #[test]
-fn a_thread_is_unparked_with_a_token(rt: HostRuntime) -> Result<(), Fail> {
-    let token = UnparkToken(42);
-    let waiting = ThreadStatus::Waiting {
-        key: 3,
-        timed: false,
-    };
-    let taken = ThreadStatus::Taken(token);
-    let script = [
-        (Call::Park(0, 3), WAITS),
-        (Call::Status(0), Answer::Stands(Some(waiting))),
-        (Call::Park(0, 3), WRONG),
-        (
-            Call::UnparkOne(3, 42),
-            Answer::Unparked(outcome(1, 0, false)),
-        ),
-        (Call::Status(0), Answer::Stands(Some(taken))),
-        (
-            Call::Resume(0),
-            Answer::Ended(Some(ParkResult::Unparked(token))),
-        ),
-        (Call::Status(0), RUNS),
-    ];
-    follow(&rt, 1, &[], &script)
-}
-
-#[test]
-fn an_invalid_park_leaves_the_list(rt: HostRuntime) -> Result<(), Fail> {
-    let script = [
-        (
-            Call::ParkInvalid(0, 3),
-            Answer::Ended(Some(ParkResult::Invalid)),
-        ),
-        (Call::IsQueue(3, &[]), IS),
-        (Call::Status(0), RUNS),
-    ];
-    follow(&rt, 1, &[], &script)
-}
-
-#[test]
-fn a_deadline_ends_a_timed_sleep(rt: HostRuntime) -> Result<(), Fail> {
-    let script = [
-        (Call::Deadline(0), WRONG),
-        (Call::Park(1, 3), WAITS),
-        (Call::Deadline(1), WRONG),
-        (Call::ParkTimed(0, 3), WAITS),
-        (Call::Resume(0), WRONG),
-        (Call::Deadline(0), Answer::Done),
-        (Call::Status(0), LATE),
-        (Call::Deadline(0), WRONG),
-        (
-            Call::ResumeLate(0),
-            Answer::Late(ParkResult::TimedOut, Some((3, false))),
-        ),
-        (Call::IsQueue(3, &[1]), IS),
-    ];
-    follow(&rt, 2, &[], &script)
-}
-
-#[test]
-fn a_late_thread_that_was_taken_is_unparked(rt: HostRuntime) -> Result<(), Fail> {
-    let woken = ParkResult::Unparked(UnparkToken(5));
-    let script = [
-        (Call::ParkTimed(0, 3), WAITS),
-        (Call::Deadline(0), Answer::Done),
-        (
-            Call::UnparkOne(3, 5),
-            Answer::Unparked(outcome(1, 0, false)),
-        ),
-        (Call::Status(0), LATE),
-        (Call::ResumeLate(0), Answer::Late(woken, None)),
-    ];
-    follow(&rt, 1, &[], &script)
+fn threads_sleep_and_go_on(rt: HostRuntime) -> Result<(), Fail> {
+    follow_each(&rt, PLAYS)
 }
 
 /// Whether a refusal has that number and prints that name.
@@ -148,24 +129,27 @@ fn is_named(rt: &impl Abort, code: u16, text: &str, name: &str, must: u16) {
     assert!(rt; (code == must) & (text == name), "{name}");
 }
 
+const REFUSALS: &[(LotFault, u16, &'static str)] = &[
+    (LotFault::TooManyThreads, 11, "TooManyThreads"),
+    (LotFault::Busy, 12, "Busy"),
+    (LotFault::WrongStatus, 13, "WrongStatus"),
+    (LotFault::NoMemory, 99, "NoMemory"),
+];
+
+const SIZE_REFUSALS: &[(SizeFault, u16, &'static str)] = &[
+    (SizeFault::BadSize, 20, "BadSize"),
+    (SizeFault::NoMemory, 99, "NoMemory"),
+];
+
 #[test]
 fn refusals_have_names_and_numbers(rt: HostRuntime) -> Result<(), Fail> {
-    let table = [
-        (LotFault::TooManyThreads, 11, "TooManyThreads"),
-        (LotFault::Busy, 12, "Busy"),
-        (LotFault::WrongStatus, 13, "WrongStatus"),
-        (LotFault::NoMemory, 99, "NoMemory"),
-    ];
-    for (fault, code, name) in table {
+    for (fault, code, name) in REFUSALS {
         let text = format!(in rt.alloc(); "{fault}")?;
-        is_named(&rt, fault.code(), text.as_str(), name, code);
+        is_named(&rt, fault.code(), text.as_str(), name, *code);
     }
-    for (fault, code, name) in [
-        (SizeFault::BadSize, 20, "BadSize"),
-        (SizeFault::NoMemory, 99, "NoMemory"),
-    ] {
+    for (fault, code, name) in SIZE_REFUSALS {
         let text = format!(in rt.alloc(); "{fault}")?;
-        is_named(&rt, fault.code(), text.as_str(), name, code);
+        is_named(&rt, fault.code(), text.as_str(), name, *code);
     }
     Ok(())
 }

@@ -1,10 +1,11 @@
 //! Threads that sleep and are woken. Each waits for a flag or a thread for a bounded number of turns.
+use crate::trials::{Trial, goes_well};
 use parking_lot_core::{
     DEFAULT_PARK_TOKEN, FilterOp, ParkResult, ParkToken, ParkingLot, RequeueOp, ThreadData,
     ThreadParker, ThreadParkerT, UnparkHandleT, UnparkResult, UnparkToken, WordLock, park,
     thread_yield, unpark_all, unpark_filter, unpark_one, unpark_requeue,
 };
-use std::alloc::{AllocError, Global};
+use std::alloc::{AllocError, Allocator, Global};
 use std::sync::Wait;
 use std::sync::atomic::{AtomicUsize, Ordering};
 use std::test::Fail;
@@ -13,8 +14,6 @@ use std::thread::Threads;
 use std::time::{Clock, Instant};
 
 pub const TURNS: u32 = 10_000_000;
-
-const ROUNDS: usize = 100_000;
 
 /// Waits until the flag has come so far, and answers whether it has.
 pub fn has_come(flag: &AtomicUsize, value: usize) -> bool {
@@ -38,11 +37,12 @@ pub fn unparked<R: Wait>(lot: &ParkingLot<R>, key: usize, token: usize) -> bool 
     false
 }
 
-/// Parks under the key, as long as it isn't over.
-pub fn parked<R: Wait + Clock>(
-    lot: &ParkingLot<R>,
-    me: &mut ThreadData,
+/// Parks under the key with a token, as long as it isn't over.
+pub fn parked<R: Wait + Clock, A: Allocator>(
+    lot: &ParkingLot<R, A>,
+    me: &mut ThreadData<A>,
     key: usize,
+    token: ParkToken,
     over: &AtomicUsize,
 ) -> Option<ParkResult> {
     let going = 0usize;
@@ -56,59 +56,9 @@ pub fn parked<R: Wait + Clock>(
         || over.load(Ordering::SeqCst) == going,
         || {},
         |_, _| {},
-        DEFAULT_PARK_TOKEN,
+        token,
         None::<(Instant, &R)>,
     ))
-}
-
-/// Parks again and again, and answers whether each park got the token of its round.
-fn parked_each<R: Wait + Clock>(
-    lot: &ParkingLot<R>,
-    me: &mut ThreadData,
-    over: &AtomicUsize,
-) -> bool {
-    for round in 0..ROUNDS {
-        if parked(lot, me, 3, over) != Some(ParkResult::Unparked(UnparkToken(round))) {
-            return false;
-        }
-    }
-    true
-}
-
-/// Unparks so often, with the number of the round. Where nobody comes it says that it is over.
-fn unparked_each<R: Wait>(lot: &ParkingLot<R>, over: &AtomicUsize) -> bool {
-    for round in 0..ROUNDS {
-        if !unparked(lot, 3, round) {
-            over.store(1, Ordering::SeqCst);
-            unpark_all(lot, 3, UnparkToken(ROUNDS));
-            return false;
-        }
-    }
-    true
-}
-
-/// One thread is woken as often as it parks, and at the end nobody is left.
-fn none_is_lost<R: Wait + Threads + Clock + Sync>(
-    rt: &R,
-    lot: &ParkingLot<R>,
-    me: &mut ThreadData,
-) -> bool {
-    let over = AtomicUsize::new(0);
-    let (slept, woke) = thread::join(
-        rt,
-        || parked_each(lot, me, &over),
-        || unparked_each(lot, &over),
-    );
-    let left = unpark_all(lot, 3, UnparkToken(0));
-    slept & woke & (left == 0)
-}
-
-#[test]
-fn a_hundred_thousand_unparks_are_not_lost(rt: HostRuntime) -> Result<(), Fail> {
-    let lot = ParkingLot::new(rt, rt.alloc(), 2, 7)?;
-    let mut me = lot.thread_data()?;
-    assert!(rt; none_is_lost(&rt, &lot, &mut me));
-    Ok(())
 }
 
 /// Parks under key 3 until a moment that is past, once another has been told of it and has had its turn.
@@ -142,11 +92,8 @@ fn unparked_then<R: Wait>(lot: &ParkingLot<R>, step: &AtomicUsize) -> bool {
     woke
 }
 
-/// How the park ended, whether another took it, and whether it was told to be late.
-fn ended_late<R: Wait + Threads + Clock + Sync>(
-    rt: &R,
-    lot: &ParkingLot<R>,
-) -> (Option<ParkResult>, bool, bool) {
+/// Whether a deadline behind a taking is no time out: another takes the thread, which isn't told to be late.
+pub fn is_in_time<R: Wait + Threads + Clock + Sync>(rt: &R, lot: &ParkingLot<R>) -> bool {
     let step = AtomicUsize::new(0);
     let late = AtomicUsize::new(0);
     let (ended, woke) = thread::join(
@@ -154,20 +101,12 @@ fn ended_late<R: Wait + Threads + Clock + Sync>(
         || parked_late(lot, rt, &step, &late),
         || unparked_then(lot, &step),
     );
-    (ended, woke, late.load(Ordering::SeqCst) != 0)
-}
-
-#[test]
-fn a_deadline_behind_a_taking_is_no_time_out(rt: HostRuntime) -> Result<(), Fail> {
-    let lot = ParkingLot::new(rt, rt.alloc(), 2, 7)?;
-    let ended = ended_late(&rt, &lot);
-    let unparked = Some(ParkResult::Unparked(UnparkToken(9)));
-    assert!(rt; ended == (unparked, true, false));
-    Ok(())
+    let is_unparked = ended == Some(ParkResult::Unparked(UnparkToken(9)));
+    is_unparked & woke & (late.load(Ordering::SeqCst) == 0)
 }
 
 /// Parks under the key as the sleeper of that number, behind those with lesser numbers, and answers its token.
-pub fn sleeps<R: Wait + Clock>(
+fn sleeps<R: Wait + Clock>(
     lot: &ParkingLot<R>,
     joined: &AtomicUsize,
     number: usize,
@@ -193,24 +132,31 @@ pub fn sleeps<R: Wait + Clock>(
     }
 }
 
-/// Whether the three sleepers were told these tokens.
-fn are_told(tokens: Result<Vec<Option<UnparkToken>>, AllocError>, told: [usize; 3]) -> bool {
-    let [first, second, third] = told;
-    let told = |token| Some(UnparkToken(token));
-    match tokens {
-        Ok(tokens) => tokens.as_slice() == [told(first), told(second), told(third)].as_slice(),
-        Err(_) => false,
+/// Whether the sleepers were told these tokens.
+pub fn are_told(tokens: Result<Vec<Option<UnparkToken>>, AllocError>, told: &[usize]) -> bool {
+    let Ok(tokens) = tokens else {
+        return false;
+    };
+    let mut are_right = tokens.len() == told.len();
+    for (token, wanted) in tokens.iter().zip(told.iter()) {
+        are_right = are_right & (*token == Some(UnparkToken(*wanted)));
     }
+    are_right
 }
 
-/// Three sleep under key 3. Answers what each was told.
-fn three_sleep<R: Wait + Threads + Clock + Sync>(
+/// One sleeps under each of the keys. Answers what each was told.
+pub fn sleep_each<R: Wait + Threads + Clock + Sync>(
     rt: &R,
     alloc: Global,
     lot: &ParkingLot<R>,
     joined: &AtomicUsize,
+    keys: &[usize],
 ) -> Result<Vec<Option<UnparkToken>>, AllocError> {
-    thread::map_indices(rt, alloc, 3, &|number| sleeps(lot, joined, number, 3))
+    let sleeper = |number| match keys.get(number) {
+        Some(key) => sleeps(lot, joined, number, *key),
+        None => None,
+    };
+    thread::map_indices(rt, alloc, keys.len(), &sleeper)
 }
 
 /// As soon as all sleep, wakes the second by a filter, and then all others by another.
@@ -232,7 +178,7 @@ fn filters<R: Wait>(
 }
 
 /// Whether the filters wake whom they want.
-fn are_filtered<R: Wait + Threads + Clock + Sync>(
+pub fn are_filtered<R: Wait + Threads + Clock + Sync>(
     rt: &R,
     alloc: Global,
     lot: &ParkingLot<R>,
@@ -240,7 +186,7 @@ fn are_filtered<R: Wait + Threads + Clock + Sync>(
     let joined = AtomicUsize::new(0);
     let (tokens, woke) = thread::join(
         rt,
-        || three_sleep(rt, alloc, lot, &joined),
+        || sleep_each(rt, alloc, lot, &joined, &[3, 3, 3]),
         || filters(lot, &joined),
     );
     let Some((one, rest)) = woke else {
@@ -248,14 +194,7 @@ fn are_filtered<R: Wait + Threads + Clock + Sync>(
     };
     let is_one = (one.unparked_threads == 1) & one.have_more_threads;
     let are_two = (rest.unparked_threads == 2) & !rest.have_more_threads;
-    is_one & are_two & are_told(tokens, [8, 7, 8])
-}
-
-#[test]
-fn a_filter_takes_whom_it_wants(rt: HostRuntime) -> Result<(), Fail> {
-    let lot = ParkingLot::new(rt, rt.alloc(), 3, 7)?;
-    assert!(rt; are_filtered(&rt, rt.alloc(), &lot));
-    Ok(())
+    is_one & are_two & are_told(tokens, &[8, 7, 8])
 }
 
 /// As soon as all sleep, wakes the first and has the others sleep under key 4, where they are woken. Answers the first
@@ -274,7 +213,7 @@ fn requeues<R: Wait>(
 }
 
 /// Whether those that were requeued wake under the other key.
-fn are_requeued<R: Wait + Threads + Clock + Sync>(
+pub fn are_requeued<R: Wait + Threads + Clock + Sync>(
     rt: &R,
     alloc: Global,
     lot: &ParkingLot<R>,
@@ -282,38 +221,40 @@ fn are_requeued<R: Wait + Threads + Clock + Sync>(
     let joined = AtomicUsize::new(0);
     let (tokens, woke) = thread::join(
         rt,
-        || three_sleep(rt, alloc, lot, &joined),
+        || sleep_each(rt, alloc, lot, &joined, &[3, 3, 3]),
         || requeues(lot, &joined),
     );
     let Some((moved, left, rest)) = woke else {
         return false;
     };
     let are_moved = (moved.unparked_threads == 1) & (moved.requeued_threads == 2);
-    are_moved & (left == 0) & (rest == 2) & are_told(tokens, [7, 8, 8])
+    are_moved & (left == 0) & (rest == 2) & are_told(tokens, &[7, 8, 8])
 }
 
-#[test]
-fn requeued_threads_wake_under_the_other_key(rt: HostRuntime) -> Result<(), Fail> {
-    let lot = ParkingLot::new(rt, rt.alloc(), 3, 7)?;
-    assert!(rt; are_requeued(&rt, rt.alloc(), &lot));
-    Ok(())
-}
-
-#[test]
-fn each_64th_unpark_or_filter_is_fair(rt: HostRuntime) -> Result<(), Fail> {
-    let lot = ParkingLot::new(rt, rt.alloc(), 2, 7)?;
-    for turn in 1..257u32 {
-        let result = if turn % 3 == 0 {
-            unpark_filter(&lot, 3, |_| FilterOp::Stop, |_| UnparkToken(0))
-        } else {
-            unpark_one(&lot, 3, |_| UnparkToken(0))
-        };
-        let is_fair = result.be_fair == (turn % 64 == 0);
-        let other = unpark_requeue(&lot, 3, 4, || RequeueOp::UnparkOne, |_, _| UnparkToken(0));
-        let woken = unpark_all(&lot, 3, UnparkToken(0));
-        assert!(rt; is_fair & !other.be_fair & (woken == 0), "turn {turn}");
+/// Unparks nobody or filters nobody, and answers whether that is to be fair.
+fn is_fair<R: Wait>(lot: &ParkingLot<R>, filters: bool) -> bool {
+    if filters {
+        unpark_filter(lot, 3, |_| FilterOp::Stop, |_| UnparkToken(0)).be_fair
+    } else {
+        unpark_one(lot, 3, |_| UnparkToken(0)).be_fair
     }
-    Ok(())
+}
+
+/// Whether a requeue of nobody is to be fair, or somebody waits.
+fn is_other<R: Wait>(lot: &ParkingLot<R>) -> bool {
+    let other = unpark_requeue(lot, 3, 4, || RequeueOp::UnparkOne, |_, _| UnparkToken(0));
+    other.be_fair | (unpark_all(lot, 3, UnparkToken(0)) != 0)
+}
+
+/// Whether each 64th unpark or filter is fair up to that turn, where each third is a filter or none; and no other call.
+pub fn are_fair<R: Wait>(lot: &ParkingLot<R>, turns: u32, filters: bool) -> bool {
+    for turn in 1..turns {
+        let is_fair = is_fair(lot, filters & (turn % 3 == 0));
+        if is_fair != (turn % 64 == 0) || (filters && is_other(lot)) {
+            return false;
+        }
+    }
+    true
 }
 
 /// Whether a thread that sleeps on the seat is told to be late. Another unparks it.
@@ -326,16 +267,20 @@ fn is_parked_late<R: Wait + Threads + Sync>(rt: &R, seat: &ThreadParker) -> bool
     late
 }
 
+/// Whether a park on the seat until that moment is not in time, and tells so.
+fn is_late<R: Wait + Clock>(rt: &R, seat: &ThreadParker, past: Instant) -> bool {
+    seat.prepare_park(rt);
+    let is_in_time = seat.park_until(rt, past, rt);
+    !is_in_time & seat.timed_out(rt)
+}
+
 #[test]
 fn a_seat_is_unparked_by_its_handle(rt: HostRuntime) -> Result<(), Fail> {
     let seat = ThreadParker::new();
     let past = Instant::now(&rt)?;
-    seat.prepare_park(&rt);
-    let is_in_time = seat.park_until(&rt, past, &rt);
-    let is_late = seat.timed_out(&rt);
+    let is_late = is_late(&rt, &seat, past);
     let is_parked_late = is_parked_late(&rt, &seat);
-    let is_unparked = seat.park_until(&rt, past, &rt);
-    assert!(rt; !is_in_time & is_late & !is_parked_late & is_unparked);
+    assert!(rt; is_late & !is_parked_late & seat.park_until(&rt, past, &rt));
     Ok(())
 }
 
@@ -415,7 +360,11 @@ fn await_turn<R: Wait + Clock>(
 }
 
 /// Whether two threads hand a turn to one another so often.
-fn hand_turns<R: Wait + Threads + Clock + Sync>(rt: &R, lot: &ParkingLot<R>, rounds: u32) -> bool {
+pub fn hand_turns<R: Wait + Threads + Clock + Sync>(
+    rt: &R,
+    lot: &ParkingLot<R>,
+    rounds: u32,
+) -> bool {
     let turn = AtomicUsize::new(0);
     let (left, right) = thread::join(
         rt,
@@ -425,9 +374,18 @@ fn hand_turns<R: Wait + Threads + Clock + Sync>(rt: &R, lot: &ParkingLot<R>, rou
     left & right & (turn.load(Ordering::SeqCst) == 0)
 }
 
+const TRIALS: &[(&'static str, usize, Trial)] = &[
+    ("a deadline behind a taking", 2, Trial::InTime),
+    ("a filter takes whom it wants", 3, Trial::Filters),
+    ("those that are requeued", 3, Trial::Requeues),
+    ("each 64th unpark or filter", 2, Trial::FairFilters),
+    ("a turn to and fro", 2, Trial::Turns),
+];
+
 #[test]
-fn two_threads_hand_a_turn_to_and_fro(rt: HostRuntime) -> Result<(), Fail> {
-    let lot = ParkingLot::new(rt, rt.alloc(), 2, 7)?;
-    assert!(rt; hand_turns(&rt, &lot, 100));
+fn sleepers_are_woken(rt: HostRuntime) -> Result<(), Fail> {
+    for (name, threads, trial) in TRIALS {
+        assert!(rt; goes_well(rt, rt.alloc(), *threads, *trial)?, "{name}");
+    }
     Ok(())
 }
