@@ -1,8 +1,7 @@
 //! What threads share: the sharded map, and a plain map behind one lock of std, which is what one would take instead.
 
-use crate::fault::Fault;
-use crate::work::{Fold, Shared};
-use parking_lot_core::{ParkingLot, ThreadData};
+use crate::work::{Fold, Map};
+use lock_api_raw::RawRwLock;
 use std::alloc::Global;
 use std::collections::HashMap;
 use std::sync::{RwLock, Wait};
@@ -11,9 +10,6 @@ use std::sync::{RwLock, Wait};
 pub trait Crowd {
     /// What a thread lends to its calls.
     type Party;
-
-    /// What one more thread lends to its calls.
-    fn party(&self) -> Result<Self::Party, Fault>;
 
     /// The value of a key, or 0.
     fn look(&self, key: &u64, me: &mut Self::Party) -> u64;
@@ -28,41 +24,31 @@ pub trait Crowd {
     fn count(&self, me: &mut Self::Party) -> usize;
 }
 
-/// A sharded map, and the lot that its threads wait in.
-#[derive(Drop)]
-pub struct Sharded<'a, 't, 'l, R> {
-    /// The map.
-    pub map: &'a Shared<'t, 'l, R, Fold>,
-    /// The lot.
-    pub lot: &'l ParkingLot<R>,
-}
-
-impl<'a, 't, 'l, R: Wait> Crowd for Sharded<'a, 't, 'l, R> {
-    type Party = ThreadData;
-
-    fn party(&self) -> Result<ThreadData, Fault> {
-        Ok(self.lot.thread_data()?)
-    }
+impl<Q: RawRwLock> Crowd for Map<Fold, Q>
+where
+    Q::Runtime: Wait,
+{
+    type Party = Q::Party;
 
     #[inline(always)]
-    fn look(&self, key: &u64, me: &mut ThreadData) -> u64 {
-        match self.map.get(key, me) {
+    fn look(&self, key: &u64, me: &mut Q::Party) -> u64 {
+        match self.get(key, me) {
             Some(value) => *value,
             None => 0,
         }
     }
 
     #[inline(always)]
-    fn put(&self, key: u64, value: u64, me: &mut ThreadData) -> bool {
-        self.map.insert(key, value, me).is_ok()
+    fn put(&self, key: u64, value: u64, me: &mut Q::Party) -> bool {
+        self.insert(key, value, me).is_ok()
     }
 
     fn part(&self, key: &u64) -> usize {
-        self.map.determine_map(key)
+        self.determine_map(key)
     }
 
-    fn count(&self, me: &mut ThreadData) -> usize {
-        self.map.len(me)
+    fn count(&self, me: &mut Q::Party) -> usize {
+        self.len(me)
     }
 }
 
@@ -85,10 +71,6 @@ impl<R> Plain<R> {
 
 impl<R: Wait> Crowd for Plain<R> {
     type Party = ();
-
-    fn party(&self) -> Result<(), Fault> {
-        Ok(())
-    }
 
     #[inline(always)]
     fn look(&self, key: &u64, _me: &mut ()) -> u64 {

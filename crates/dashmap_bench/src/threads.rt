@@ -1,6 +1,6 @@
 //! Calls of several threads at once.
 
-use crate::crowd::{Crowd, Plain, Sharded};
+use crate::crowd::{Crowd, Plain};
 use crate::fault::Fault;
 use crate::work::{Fold, Shared, map_over};
 use dashmap_calls::workload::spread;
@@ -177,6 +177,9 @@ where
     Ok(sum)
 }
 
+/// What four threads lend to their calls, two and two.
+type Parties<T> = ((T, T), (T, T));
+
 /// Both sums together.
 fn both(sums: (Result<u64, Fault>, Result<u64, Fault>)) -> Result<u64, Fault> {
     let (one, two) = sums;
@@ -208,6 +211,7 @@ where
 fn together<R: Threads + Sync, P: Crowd + Sync>(
     rt: &R,
     pairs: &P,
+    parties: Parties<P::Party>,
     team: Team,
     keys: &[u64],
     looks: u64,
@@ -216,13 +220,11 @@ fn together<R: Threads + Sync, P: Crowd + Sync>(
 where
     P::Party: Drop + Send,
 {
-    let one = pairs.party()?;
+    let (left, right) = parties;
     match team {
-        Team::One => calls(pairs, one, keys, looks, 1, count),
-        Team::Two => two(rt, pairs, (one, pairs.party()?), keys, looks, 1, count),
+        Team::One => calls(pairs, left.0, keys, looks, 1, count),
+        Team::Two => two(rt, pairs, left, keys, looks, 1, count),
         Team::Four => {
-            let left = (one, pairs.party()?);
-            let right = (pairs.party()?, pairs.party()?);
             both(thread::join(
                 rt,
                 || two(rt, pairs, left, keys, looks, 1, count),
@@ -237,17 +239,26 @@ fn run_on<R: Threads + Clock + Sync, P: Crowd + Sync>(
     rt: &R,
     alloc: Global,
     pairs: &P,
+    mut me: P::Party,
+    parties: Parties<P::Party>,
     task: Task,
 ) -> Result<Told, Fault>
 where
     P::Party: Drop + Send,
 {
-    let mut me = pairs.party()?;
     let keys = keys_of(alloc, pairs, task.is_crowded, task.numbers)?;
     put_half(pairs, &mut me, keys.as_slice())?;
     let each = task.count / task.team.count().max(1);
     let start = Instant::now(rt)?;
-    let saw = together(rt, pairs, task.team, keys.as_slice(), task.looks, each)?;
+    let saw = together(
+        rt,
+        pairs,
+        parties,
+        task.team,
+        keys.as_slice(),
+        task.looks,
+        each,
+    )?;
     Ok(Told {
         took: start.elapsed(rt)?,
         saw,
@@ -264,11 +275,10 @@ pub fn run_sharded<R: Wait + Threads + Clock + Sync + Copy + Drop>(
     let lot = ParkingLot::new(rt, alloc, 5, 7)?;
     let table = LockTable::new(alloc, &lot, 16)?;
     let map: Shared<'_, '_, R, Fold> = map_over(alloc, &table)?;
-    let pairs = Sharded {
-        map: &map,
-        lot: &lot,
-    };
-    run_on(&rt, alloc, &pairs, task)
+    let me = lot.thread_data()?;
+    let left = (lot.thread_data()?, lot.thread_data()?);
+    let right = (lot.thread_data()?, lot.thread_data()?);
+    run_on(&rt, alloc, &map, me, (left, right), task)
 }
 
 /// Has a team make its calls on a new plain map behind a lock of std.
@@ -277,5 +287,6 @@ pub fn run_plain<R: Wait + Threads + Clock + Sync + Copy + Drop>(
     alloc: Global,
     task: Task,
 ) -> Result<Told, Fault> {
-    run_on(&rt, alloc, &Plain::new(rt, alloc), task)
+    let parties = (((), ()), ((), ()));
+    run_on(&rt, alloc, &Plain::new(rt, alloc), (), parties, task)
 }
