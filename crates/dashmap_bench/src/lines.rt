@@ -3,7 +3,7 @@
 use crate::fault::Fault;
 use crate::keys::{Leaping, Onward, Round};
 use crate::parallel::{TIMES, sum_often};
-use crate::threads::{Mix, Team, run_plain, run_sharded};
+use crate::threads::{Mix, Team, run};
 use crate::walks::{count_all, keep_all, read_all, write_all};
 use crate::work::{
     Fold, Map, Measured, Shared, Sip, ask_all, churn, enter_all, look_up_all, map_over, put_all,
@@ -163,34 +163,17 @@ pub fn print_calls<R: Wait + Copy + Drop>(rt: &HostRuntime, handle: R) -> Result
     Ok(())
 }
 
-/// Prints a line for a mix of calls and a team of threads, on the sharded map and on a plain one.
-fn print_team<R: Wait + Threads + Clock + Sync + Copy + Drop>(
-    rt: &HostRuntime,
-    handle: R,
-    mix: Mix,
-    team: Team,
-) -> Result<(), Fault> {
-    let task = mix.by(team, 1 << 20, MANY);
-    let told = [
-        ("dash_fold", run_sharded(handle, rt.alloc(), task)?),
-        ("plain_fold", run_plain(handle, rt.alloc(), task)?),
-    ];
-    for (name, told) in &told {
-        let nanos = told.took.as_secs_f64() * 1e9 / f64::from(task.count);
-        eprintln!(rt; "saw {}, left {}", told.saw, told.left)?;
-        println!(rt; "mt.{}.t{}.{name} {nanos}", mix.name, team.count())?;
-    }
-    Ok(())
-}
-
-/// Prints the lines of each mix of calls and each team of threads.
+/// Prints a line for each mix of calls and each team of threads.
 pub fn print_teams<R: Wait + Threads + Clock + Sync + Copy + Drop>(
     rt: &HostRuntime,
     handle: R,
 ) -> Result<(), Fault> {
     for mix in Mix::ALL {
         for team in Team::ALL {
-            print_team(rt, handle, mix, team)?;
+            let told = run(handle, rt.alloc(), team, mix, 1 << 20, MANY)?;
+            let nanos = told.took.as_secs_f64() * 1e9 / f64::from(MANY);
+            eprintln!(rt; "saw {}, left {}", told.saw, told.left)?;
+            println!(rt; "mt.{}.t{}.dash_fold {nanos}", mix.name, team.count())?;
         }
     }
     Ok(())
@@ -255,16 +238,8 @@ pub fn small_run<R: Wait + Threads + Clock + Sync + Copy + Drop>(
     }
     for mix in Mix::ALL {
         for team in Team::ALL {
-            let task = mix.by(team, 1 << 12, 4_000);
-            let told = run_sharded(handle, rt.alloc(), task)?;
-            let plain = run_plain(handle, rt.alloc(), task)?;
-            println!(rt;
-                "mt.{}.t{} left {}, {} by a plain map",
-                mix.name,
-                team.count(),
-                told.left,
-                plain.left
-            )?;
+            let told = run(handle, rt.alloc(), team, mix, 1 << 12, 4_000)?;
+            println!(rt; "mt.{}.t{} left {}", mix.name, team.count(), told.left)?;
         }
     }
     Ok(())
