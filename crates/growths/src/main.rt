@@ -4,6 +4,7 @@
 #![tactic(auto)]
 
 mod costly;
+mod entries;
 mod forms;
 mod made;
 mod map_worlds;
@@ -30,6 +31,7 @@ fn print_maps<
     let mut all = print_lines(rt, "", tables::LINES);
     all &= print_rows(rt, "DashMap::", made::LINES);
     all &= print_rows(rt, "DashMap::", maps::LINES);
+    all &= print_rows(rt, "DashMap::", entries::LINES);
     all &= print_rows(rt, "DashMap::", owners::LINES);
     all &= print_rows(rt, "DashSet::", made::OF_SETS);
     all &= print_rows(rt, "Recorded::", records::LINES);
