@@ -17,71 +17,19 @@ fn flag(words: &mut SplitWhitespace<'_>) -> Option<bool> {
     }
 }
 
+/// What stands beside a name in a table.
+pub fn named<T: Copy>(table: &[(&str, T)], name: &str) -> Option<T> {
+    for &(known, meant) in table {
+        if known == name {
+            return Some(meant);
+        }
+    }
+    None
+}
+
 /// A kind of lock by its name.
 pub fn kind(name: &str) -> Option<LockKind> {
-    match name {
-        "Mutex" => Some(LockKind::Mutex),
-        "FairMutex" => Some(LockKind::FairMutex),
-        "Rw" => Some(LockKind::Rw),
-        "RwRecursive" => Some(LockKind::RwRecursive),
-        "Condvar" => Some(LockKind::Condvar),
-        "Once" => Some(LockKind::Once),
-        _ => None,
-    }
-}
-
-/// A call at a mutex, or of a reader or a writer.
-fn plain_call(name: &str) -> Option<LockCall> {
-    match name {
-        "Lock" => Some(LockCall::Lock),
-        "TryLock" => Some(LockCall::TryLock),
-        "Unlock" => Some(LockCall::Unlock),
-        "Read" => Some(LockCall::Read),
-        "TryRead" => Some(LockCall::TryRead),
-        "UnlockRead" => Some(LockCall::UnlockRead),
-        "Write" => Some(LockCall::Write),
-        "TryWrite" => Some(LockCall::TryWrite),
-        "UnlockWrite" => Some(LockCall::UnlockWrite),
-        "Downgrade" => Some(LockCall::Downgrade),
-        _ => None,
-    }
-}
-
-/// A call of an upgradable owner.
-fn upgradable_call(name: &str) -> Option<LockCall> {
-    match name {
-        "UpgradableRead" => Some(LockCall::UpgradableRead),
-        "TryUpgradableRead" => Some(LockCall::TryUpgradableRead),
-        "UnlockUpgradable" => Some(LockCall::UnlockUpgradable),
-        "Upgrade" => Some(LockCall::Upgrade),
-        "TryUpgrade" => Some(LockCall::TryUpgrade),
-        "DowngradeToUpgradable" => Some(LockCall::DowngradeToUpgradable),
-        "DowngradeUpgradable" => Some(LockCall::DowngradeUpgradable),
-        _ => None,
-    }
-}
-
-/// A call with a deadline.
-fn timed_call(name: &str) -> Option<LockCall> {
-    match name {
-        "LockUntil" => Some(LockCall::LockUntil),
-        "ReadUntil" => Some(LockCall::ReadUntil),
-        "WriteUntil" => Some(LockCall::WriteUntil),
-        "UpgradableUntil" => Some(LockCall::UpgradableUntil),
-        "UpgradeUntil" => Some(LockCall::UpgradeUntil),
-        _ => None,
-    }
-}
-
-/// A notification, or a wait for a once.
-fn other_call(name: &str) -> Option<LockCall> {
-    match name {
-        "NotifyOne" => Some(LockCall::NotifyOne),
-        "NotifyAll" => Some(LockCall::NotifyAll),
-        "OnceWait" => Some(LockCall::OnceWait),
-        "OnceWaitForce" => Some(LockCall::OnceWaitForce),
-        _ => None,
-    }
+    named(KINDS, name)
 }
 
 /// A call by the name of what it asks for, and the mutex or the flag that goes with it.
@@ -92,22 +40,18 @@ pub fn call(words: &mut SplitWhitespace<'_>) -> Option<LockCall> {
         "WaitUntil" => number(words).map(LockCall::WaitUntil),
         "CallOnce" => flag(words).map(LockCall::CallOnce),
         "CallOnceForce" => flag(words).map(LockCall::CallOnceForce),
-        _ => plain_call(name)
-            .or(upgradable_call(name))
-            .or(timed_call(name))
-            .or(other_call(name)),
+        _ => named(CALLS, name),
     }
 }
 
-/// A step of a schedule.
-pub fn step(text: &str) -> Option<WorldStep> {
-    let mut words = text.split_whitespace();
+/// The next words, as a step of a schedule.
+fn next_step(words: &mut SplitWhitespace<'_>) -> Option<WorldStep> {
     let verb = words.next()?;
-    let thread = number(&mut words)?;
+    let thread = number(words)?;
     match verb {
         "begin" => {
-            let lock = number(&mut words)?;
-            Some(WorldStep::Begin(thread, lock, call(&mut words)?))
+            let lock = number(words)?;
+            Some(WorldStep::Begin(thread, lock, call(words)?))
         }
         "go" => Some(WorldStep::Go(thread, false)),
         "go_fairly" => Some(WorldStep::Go(thread, true)),
@@ -115,3 +59,48 @@ pub fn step(text: &str) -> Option<WorldStep> {
         _ => None,
     }
 }
+
+/// A step of a schedule.
+pub fn step(text: &str) -> Option<WorldStep> {
+    next_step(&mut text.split_whitespace())
+}
+
+/// Kinds of locks by their names.
+const KINDS: &[(&str, LockKind)] = &[
+    ("Mutex", LockKind::Mutex),
+    ("FairMutex", LockKind::FairMutex),
+    ("Rw", LockKind::Rw),
+    ("RwRecursive", LockKind::RwRecursive),
+    ("Condvar", LockKind::Condvar),
+    ("Once", LockKind::Once),
+];
+
+/// Calls with which nothing goes, by their names.
+const CALLS: &[(&str, LockCall)] = &[
+    ("Lock", LockCall::Lock),
+    ("TryLock", LockCall::TryLock),
+    ("LockUntil", LockCall::LockUntil),
+    ("Unlock", LockCall::Unlock),
+    ("Read", LockCall::Read),
+    ("TryRead", LockCall::TryRead),
+    ("ReadUntil", LockCall::ReadUntil),
+    ("UnlockRead", LockCall::UnlockRead),
+    ("Write", LockCall::Write),
+    ("TryWrite", LockCall::TryWrite),
+    ("WriteUntil", LockCall::WriteUntil),
+    ("UnlockWrite", LockCall::UnlockWrite),
+    ("Downgrade", LockCall::Downgrade),
+    ("UpgradableRead", LockCall::UpgradableRead),
+    ("TryUpgradableRead", LockCall::TryUpgradableRead),
+    ("UpgradableUntil", LockCall::UpgradableUntil),
+    ("UnlockUpgradable", LockCall::UnlockUpgradable),
+    ("Upgrade", LockCall::Upgrade),
+    ("TryUpgrade", LockCall::TryUpgrade),
+    ("UpgradeUntil", LockCall::UpgradeUntil),
+    ("DowngradeToUpgradable", LockCall::DowngradeToUpgradable),
+    ("DowngradeUpgradable", LockCall::DowngradeUpgradable),
+    ("NotifyOne", LockCall::NotifyOne),
+    ("NotifyAll", LockCall::NotifyAll),
+    ("OnceWait", LockCall::OnceWait),
+    ("OnceWaitForce", LockCall::OnceWaitForce),
+];
