@@ -4,21 +4,38 @@ use crate::costly::Costly;
 use crate::memory::{Memory, is_done};
 use crate::rows::{On, Rows, SHARDS, Setup};
 use dashmap_map::DashMap;
-use dashmap_map::mapref::entry::Entry;
-use dashmap_table::{MapFault, SpreadState};
+use dashmap_map::mapref::entry::{Entry, OccupiedEntry};
+use dashmap_table::{MapFault, Shard, SpreadState};
+use lock_api_guards::{Hold, Lender};
 use refusing_heap::{Line, Said, Seen};
+use std::hash::Hash;
+use std::sync::Wait;
 
 type Entries<'h, T, A> = DashMap<Costly<'h>, u64, SpreadState, <T as Rows>::Lock, A>;
 
-/// What came of an insertion of 7 at a place. A refused entry still has its key, of this number, and the value comes
-/// back.
-fn inserted_at<T: Rows, A: Memory>(
-    entry: Entry<'_, '_, Costly<'_>, u64, T::Lock, A>,
-    number: u64,
-) -> Said {
+/// The place of a key whose shard is held.
+type Place<'m, 'd, 'h, T, A> = Entry<'m, 'd, Costly<'h>, u64, <T as Rows>::Lock, A>;
+
+/// Whether a place that was refused still has its key, of this number, and the value has come back.
+fn is_back<T: Rows, A: Memory>(back: (Place<'_, '_, '_, T, A>, u64), number: u64) -> bool {
+    back.1 == 7 && back.0.key().number() == number
+}
+
+/// Whether the value is there.
+fn is_in<K: Eq + Hash + Drop, A: Memory, W: Lender<Part = Shard<K, u64, A>> + Drop, H: Hold, D>(
+    entry: OccupiedEntry<K, u64, A, W, H, D>,
+) -> bool
+where
+    H::Runtime: Wait,
+{
+    *entry.get() == 7
+}
+
+/// What came of an insertion of 7 at a place.
+fn inserted_at<T: Rows, A: Memory>(entry: Place<'_, '_, '_, T, A>, number: u64) -> Said {
     match entry.insert_entry(7) {
-        Ok(entry) => Said::of(*entry.get() == 7, false),
-        Err(back) => Said::of(false, back.1 == 7 && back.0.key().number() == number),
+        Ok(entry) => Said::of(is_in(entry), false),
+        Err(back) => Said::of(false, is_back::<T, A>(back, number)),
     }
 }
 

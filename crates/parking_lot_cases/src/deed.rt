@@ -115,10 +115,15 @@ fn of_run(alloc: Global, ran: Result<(), WorldFault>) -> Result<Outcome, AllocEr
     })
 }
 
+/// One step of a thread.
+fn go(world: &mut World, thread: usize, fair: bool) -> Result<(), WorldFault> {
+    world.run(&[WorldStep::Go(thread, fair)])
+}
+
 /// A thread goes on until its call is answered or it can't. Answers whether that came.
 fn goes_on(world: &mut World, thread: usize, fair: bool) -> bool {
     for _ in 0..MOST_STEPS {
-        if world.answer(thread).is_some() || world.run(&[WorldStep::Go(thread, fair)]).is_err() {
+        if world.answer(thread).is_some() || go(world, thread, fair).is_err() {
             return true;
         }
     }
@@ -128,7 +133,10 @@ fn goes_on(world: &mut World, thread: usize, fair: bool) -> bool {
 /// So many steps of a thread, up to the first that is refused.
 fn steps(world: &mut World, thread: usize, count: usize) -> Result<(), WorldFault> {
     for _ in 0..count {
-        world.run(&[WorldStep::Go(thread, false)])?;
+        let gone = go(world, thread, false);
+        if gone.is_err() {
+            return gone;
+        }
     }
     Ok(())
 }
