@@ -33,14 +33,18 @@ fn follow_all(rt: HostRuntime) -> io::Result<bool> {
     Ok(is_true)
 }
 
-/// Prints the table of the calls whose growths are refused, and answers whether all stood.
-fn print_growths<R: AllocGlobal + Print + Wait + Clock + Copy + Drop>(rt: R) -> bool {
-    let mut all = print_head(rt);
-    all &= print_lines(rt, "Mutex::", arcs::OF_MUTEX);
+/// Prints the lines of locks, and answers whether all stood.
+fn print_locks<R: AllocGlobal + Print + Wait + Clock + Copy + Drop>(rt: R) -> bool {
+    let mut all = print_lines(rt, "Mutex::", arcs::OF_MUTEX);
     all &= print_lines(rt, "ReentrantMutex::", arcs::OF_NESTED);
     all &= print_lines(rt, "RwLock::", arcs::OF_LOCK);
     all &= print_lines(rt, "Desk::", desk::LINES);
-    all &= print_lines(rt, "Lot::", lots::LINES);
+    all
+}
+
+/// Prints the lines of lots and of worlds of locks, and answers whether all stood.
+fn print_lots<R: AllocGlobal + Print + Wait + Copy + Drop>(rt: R) -> bool {
+    let mut all = print_lines(rt, "Lot::", lots::LINES);
     all &= print_lines(rt, "", lots::SHARED);
     all &= print_lines(rt, "World::", lock_worlds::LINES);
     all
@@ -48,8 +52,11 @@ fn print_growths<R: AllocGlobal + Print + Wait + Clock + Copy + Drop>(rt: R) -> 
 
 /// Succeeds where every line came true and all stood. A failed write is not told, since nobody may be listening.
 fn main(rt: HostRuntime) -> ExitCode {
-    let are_true = matches!(follow_all(rt), Ok(true));
-    match print_growths(rt) && are_true {
+    let mut all = matches!(follow_all(rt), Ok(true));
+    all &= print_head(rt);
+    all &= print_locks(rt);
+    all &= print_lots(rt);
+    match all {
         true => ExitCode::SUCCESS,
         false => ExitCode::FAILURE,
     }

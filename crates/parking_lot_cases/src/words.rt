@@ -8,15 +8,6 @@ pub fn number(words: &mut SplitWhitespace<'_>) -> Option<usize> {
     words.next()?.parse::<usize>().ok()
 }
 
-/// The next word, as yes or no.
-fn flag(words: &mut SplitWhitespace<'_>) -> Option<bool> {
-    match words.next()? {
-        "true" => Some(true),
-        "false" => Some(false),
-        _ => None,
-    }
-}
-
 /// What stands beside a name in a table.
 pub fn named<T: Copy>(table: &[(&str, T)], name: &str) -> Option<T> {
     for &(known, meant) in table {
@@ -25,6 +16,11 @@ pub fn named<T: Copy>(table: &[(&str, T)], name: &str) -> Option<T> {
         }
     }
     None
+}
+
+/// The next word, as yes or no.
+fn flag(words: &mut SplitWhitespace<'_>) -> Option<bool> {
+    named(FLAGS, words.next()?)
 }
 
 /// A kind of lock by its name.
@@ -44,26 +40,46 @@ pub fn call(words: &mut SplitWhitespace<'_>) -> Option<LockCall> {
     }
 }
 
-/// The next words, as a step of a schedule.
-fn next_step(words: &mut SplitWhitespace<'_>) -> Option<WorldStep> {
-    let verb = words.next()?;
+/// What the first word of a step says of a thread, whose number comes next.
+#[derive(Clone, Copy)]
+enum Move {
+    Begin,
+    /// What it releases is handed over where this says so.
+    Go(bool),
+    Deadline,
+}
+
+/// A step of a schedule by its move and the words behind it.
+fn step_of(by: Move, words: &mut SplitWhitespace<'_>) -> Option<WorldStep> {
     let thread = number(words)?;
-    match verb {
-        "begin" => {
+    match by {
+        Move::Begin => {
             let lock = number(words)?;
             Some(WorldStep::Begin(thread, lock, call(words)?))
         }
-        "go" => Some(WorldStep::Go(thread, false)),
-        "go_fairly" => Some(WorldStep::Go(thread, true)),
-        "deadline" => Some(WorldStep::Deadline(thread)),
-        _ => None,
+        Move::Go(fair) => Some(WorldStep::Go(thread, fair)),
+        Move::Deadline => Some(WorldStep::Deadline(thread)),
     }
+}
+
+/// The next words, as a step of a schedule.
+fn next_step(words: &mut SplitWhitespace<'_>) -> Option<WorldStep> {
+    step_of(named(MOVES, words.next()?)?, words)
 }
 
 /// A step of a schedule.
 pub fn step(text: &str) -> Option<WorldStep> {
     next_step(&mut text.split_whitespace())
 }
+
+const FLAGS: &[(&str, bool)] = &[("true", true), ("false", false)];
+
+const MOVES: &[(&str, Move)] = &[
+    ("begin", Move::Begin),
+    ("go", Move::Go(false)),
+    ("go_fairly", Move::Go(true)),
+    ("deadline", Move::Deadline),
+];
 
 /// Kinds of locks by their names.
 const KINDS: &[(&str, LockKind)] = &[
