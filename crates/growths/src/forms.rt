@@ -20,10 +20,7 @@ pub enum Viewed {
 type View<T, A> = ReadOnlyView<u64, u64, SpreadState, <T as Rows>::Lock, A>;
 
 /// A map of the keys 0 and 1.
-fn two<T: Rows, R, A: Memory>(
-    setup: &Setup<'_, T, R, A>,
-    me: &mut T::Party,
-) -> Option<Map<T, A>> {
+fn two<T: Rows, R, A: Memory>(setup: &Setup<'_, T, R, A>, me: &mut T::Party) -> Option<Map<T, A>> {
     let map: Result<Map<T, A>, MapFault> = map_of(setup.alloc, setup.table);
     match map {
         Ok(map) => {
@@ -44,7 +41,11 @@ fn collect_owned<T: Rows, R: Threads + Sync, A: Memory>(
     let list = walk.map_collect(setup.rt, setup.alloc, |key: u64, _: u64| key);
     let said = listed(list, 2, NoMemory);
     let behind = setup.heap.asked();
-    Seen::of(before, behind, said.may_fit(setup.heap) && setup.table.are_free())
+    Seen::of(
+        before,
+        behind,
+        said.may_fit(setup.heap) && setup.table.are_free(),
+    )
 }
 
 /// Collects the keys of a new map.
@@ -108,7 +109,11 @@ fn ask_view<T: Rows, R: Threads + Sync, A: Memory>(
     let before = setup.heap.asked();
     let said = say_view(setup, view, call);
     let behind = setup.heap.asked();
-    Seen::of(before, behind, said.may_fit(setup.heap) && has_both::<T, A>(view))
+    Seen::of(
+        before,
+        behind,
+        said.may_fit(setup.heap) && has_both::<T, A>(view),
+    )
 }
 
 /// A view of the keys 0 and 1.

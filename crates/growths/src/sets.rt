@@ -226,7 +226,11 @@ fn collect_owned<T: Rows, R: Threads + Sync, A: Memory>(
     let list = walk.map_collect(setup.rt, setup.alloc, |key: u64| key);
     let said = listed(list, 2, NoMemory);
     let behind = setup.heap.asked();
-    Seen::of(before, behind, said.may_fit(setup.heap) && setup.table.are_free())
+    Seen::of(
+        before,
+        behind,
+        said.may_fit(setup.heap) && setup.table.are_free(),
+    )
 }
 
 /// Makes a call on a set, or collects its keys as it goes.

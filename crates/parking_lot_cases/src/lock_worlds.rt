@@ -68,11 +68,7 @@ fn make_world<A: Memory>(heap: &Heap, alloc: A, kinds: Kinds) -> Option<Seen> {
 }
 
 /// Makes a call in a new world.
-fn in_new<A: Memory>(
-    heap: &Heap,
-    world: Result<World<A>, SizeFault>,
-    call: Call,
-) -> Option<Seen> {
+fn in_new<A: Memory>(heap: &Heap, world: Result<World<A>, SizeFault>, call: Call) -> Option<Seen> {
     match world {
         Ok(mut world) => look(heap, &mut world, call),
         Err(_) => None,
