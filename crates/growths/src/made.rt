@@ -1,13 +1,13 @@
 //! How maps and sets are made, over a table of locks whose rows are counted.
 
 use crate::memory::Memory;
-use crate::rows::{On, Rows, keys, pairs};
+use crate::rows::{On, Rows, Setup, keys, pairs};
 use dashmap::set::DashSet;
 use dashmap_calls::Numbers;
 use dashmap_map::{DashMap, NewFault};
 use dashmap_plain::from_par_iter;
 use dashmap_table::{MapFault, SpreadState};
-use refusing_heap::{Heap, Line, Said, Seen, made};
+use refusing_heap::{Line, Seen, made};
 use std::hash::RandomState;
 use std::random::RandomSource;
 
@@ -68,31 +68,33 @@ fn map_by<T: Rows, A: Memory>(alloc: A, table: T, make: Make) -> Made<Map<Spread
 }
 
 /// Makes a map of pairs.
-fn map_of<T: Rows, A: Memory>(heap: &Heap, alloc: A, table: T, make: Make) -> Option<Seen> {
-    let (pairs, by) = (pairs(alloc)?, SpreadState);
-    let before = heap.asked();
+fn map_of<T: Rows, R, A: Memory>(setup: &Setup<'_, T, R, A>, make: Make) -> Option<Seen> {
+    let (alloc, table, by) = (setup.alloc, setup.table, SpreadState);
+    let pairs = pairs(alloc)?;
+    let before = setup.heap.asked();
     let map: Made<Map<SpreadState, T, A>> = match make {
         Make::Iter => DashMap::from_iter(alloc, pairs.into_iter(), by, 1, table),
         _ => from_par_iter(alloc, pairs, by, 1, table),
     };
-    made(map, MapFault::NoMemory).seen(heap, before, table.are_taken(TAKEN))
+    made(map, MapFault::NoMemory).seen(setup.heap, before, table.are_taken(TAKEN))
 }
 
 /// Makes a map. The rows that it took stay used, of a refused one too.
-pub fn make_map<T: Rows, A: Memory>(heap: &Heap, alloc: A, table: T, make: Make) -> Option<Seen>
+pub fn make_map<T: Rows, R, A: Memory>(setup: &Setup<'_, T, R, A>, make: Make) -> Option<Seen>
 where
     T::Runtime: RandomSource,
 {
-    let before = heap.asked();
+    let (alloc, table) = (setup.alloc, setup.table);
+    let before = setup.heap.asked();
     let said = match make {
         Make::New | Make::WithCapacity | Make::WithShards | Make::WithBoth => made(
             new_map::<T, A>(alloc, table, make),
             NewFault::Map(MapFault::NoMemory),
         ),
-        Make::Iter | Make::ParIter => return map_of::<T, A>(heap, alloc, table, make),
+        Make::Iter | Make::ParIter => return map_of(setup, make),
         _ => made(map_by::<T, A>(alloc, table, make), MapFault::NoMemory),
     };
-    said.seen(heap, before, table.are_taken(TAKEN))
+    said.seen(setup.heap, before, table.are_taken(TAKEN))
 }
 
 fn new_set<T: Rows, A: Memory>(
@@ -118,31 +120,33 @@ fn set_by<T: Rows, A: Memory>(alloc: A, table: T, make: Make) -> Made<Set<Spread
 }
 
 /// Makes a set of keys.
-fn set_of<T: Rows, A: Memory>(heap: &Heap, alloc: A, table: T, make: Make) -> Option<Seen> {
-    let (keys, by) = (keys(alloc)?, SpreadState);
-    let before = heap.asked();
+fn set_of<T: Rows, R, A: Memory>(setup: &Setup<'_, T, R, A>, make: Make) -> Option<Seen> {
+    let (alloc, table, by) = (setup.alloc, setup.table, SpreadState);
+    let keys = keys(alloc)?;
+    let before = setup.heap.asked();
     let set: Made<Set<SpreadState, T, A>> = match make {
         Make::Iter => DashSet::from_iter(alloc, keys.into_iter(), by, 1, table),
         _ => DashSet::from_par_iter(alloc, keys, by, 1, table),
     };
-    made(set, MapFault::NoMemory).seen(heap, before, table.are_taken(TAKEN))
+    made(set, MapFault::NoMemory).seen(setup.heap, before, table.are_taken(TAKEN))
 }
 
 /// Makes a set, as a map is made.
-pub fn make_set<T: Rows, A: Memory>(heap: &Heap, alloc: A, table: T, make: Make) -> Option<Seen>
+pub fn make_set<T: Rows, R, A: Memory>(setup: &Setup<'_, T, R, A>, make: Make) -> Option<Seen>
 where
     T::Runtime: RandomSource,
 {
-    let before = heap.asked();
+    let (alloc, table) = (setup.alloc, setup.table);
+    let before = setup.heap.asked();
     let said = match make {
         Make::New | Make::WithCapacity => made(
             new_set::<T, A>(alloc, table, make),
             NewFault::Map(MapFault::NoMemory),
         ),
-        Make::Iter | Make::ParIter => return set_of::<T, A>(heap, alloc, table, make),
+        Make::Iter | Make::ParIter => return set_of(setup, make),
         _ => made(set_by::<T, A>(alloc, table, make), MapFault::NoMemory),
     };
-    said.seen(heap, before, table.are_taken(TAKEN))
+    said.seen(setup.heap, before, table.are_taken(TAKEN))
 }
 
 const ROWS: &str = "nothing is made; its rows of the table stay used";

@@ -1,14 +1,11 @@
-//! Each call of locks, lots, maps and worlds that may be refused for want of memory: with ample memory first, and then
+//! Each call of maps, sets and worlds of maps that may be refused for want of memory: with ample memory first, and then
 //! with each of its growths refused in turn. What is printed is a table of the calls, how many growths of each were
 //! refused, and what stood behind it.
 #![tactic(auto)]
 
-mod arcs;
 mod costly;
-mod desk;
+mod entries;
 mod forms;
-mod lock_worlds;
-mod lots;
 mod made;
 mod map_worlds;
 mod maps;
@@ -27,18 +24,6 @@ use std::rt::Clock;
 use std::sync::Wait;
 use std::thread::Threads;
 
-/// Prints the lines of locks, lots and worlds of locks, and answers whether all stood.
-fn print_locks<R: AllocGlobal + Print + Wait + Clock + Copy + Drop>(rt: R) -> bool {
-    let mut all = print_lines(rt, "Mutex::", arcs::OF_MUTEX);
-    all &= print_lines(rt, "ReentrantMutex::", arcs::OF_NESTED);
-    all &= print_lines(rt, "RwLock::", arcs::OF_LOCK);
-    all &= print_lines(rt, "Desk::", desk::LINES);
-    all &= print_lines(rt, "Lot::", lots::LINES);
-    all &= print_lines(rt, "", lots::SHARED);
-    all &= print_lines(rt, "World::", lock_worlds::LINES);
-    all
-}
-
 /// Prints the lines of maps, sets and worlds of maps, and answers whether all stood.
 fn print_maps<
     R: AllocGlobal + Print + Wait + Threads + Clock + RandomSource + Copy + Send + Sync + Drop,
@@ -46,6 +31,7 @@ fn print_maps<
     let mut all = print_lines(rt, "", tables::LINES);
     all &= print_rows(rt, "DashMap::", made::LINES);
     all &= print_rows(rt, "DashMap::", maps::LINES);
+    all &= print_rows(rt, "DashMap::", entries::LINES);
     all &= print_rows(rt, "DashMap::", owners::LINES);
     all &= print_rows(rt, "DashSet::", made::OF_SETS);
     all &= print_rows(rt, "Recorded::", records::LINES);
@@ -61,7 +47,6 @@ fn print_maps<
 /// Prints the table. Succeeds where all stood. A failed write is not told, since nobody may be listening.
 fn main(rt: HostRuntime) -> ExitCode {
     let mut all = print_head(rt);
-    all &= print_locks(rt);
     all &= print_maps(rt);
     match all {
         true => ExitCode::SUCCESS,

@@ -172,19 +172,6 @@ fn play<A: Memory>(heap: &Heap, world: &mut World<A>, played: Played) -> Option<
     Seen::of(before, behind, is_right && sleeps && drained > 0)
 }
 
-fn play_on<A: Memory>(heap: &Heap, alloc: A, played: Played) -> Option<Seen> {
-    match world_of(heap, alloc, played.0, played.1) {
-        Some((_, Ok(mut world))) => play(heap, &mut world, played),
-        _ => None,
-    }
-}
-
-impl<R: Drop> Case<R> for Played {
-    fn run(self, _rt: R, heap: &Heap) -> Option<Seen> {
-        play_on(heap, heap, self)
-    }
-}
-
 /// A call that makes a world, or looks at one whose thread 1 waits for what thread 0 holds.
 #[derive(Clone, Copy)]
 pub enum Whole {
@@ -215,15 +202,58 @@ fn look<A: Memory>(heap: &Heap, world: &mut World<A>, call: Whole) -> Option<See
     Seen::of(before, behind, said.may_fit(heap) && is_kept)
 }
 
-fn make_world<A: Memory>(heap: &Heap, alloc: A) -> Option<Seen> {
-    let (before, world) = world_of(heap, alloc, &[1, 2], HELD)?;
-    made(world, WorldNewFault::NoMemory).seen(heap, before, true)
+/// What a world is made for.
+#[derive(Clone, Copy)]
+enum Aim {
+    Play(Played),
+    Look(Whole),
 }
 
-fn with_world<A: Memory>(heap: &Heap, alloc: A, call: Whole) -> Option<Seen> {
-    match world_of(heap, alloc, &[1], HELD) {
-        Some((_, Ok(mut world))) => look(heap, &mut world, call),
-        _ => None,
+/// Plays in a world, or looks at it.
+fn ask<A: Memory>(heap: &Heap, world: &mut World<A>, aim: Aim) -> Option<Seen> {
+    match aim {
+        Aim::Play(played) => play(heap, world, played),
+        Aim::Look(call) => look(heap, world, call),
+    }
+}
+
+/// The same in a new world.
+fn ask_new<A: Memory>(
+    heap: &Heap,
+    world: Result<World<A>, WorldNewFault>,
+    aim: Aim,
+) -> Option<Seen> {
+    match world {
+        Ok(mut world) => ask(heap, &mut world, aim),
+        Err(_) => None,
+    }
+}
+
+/// Makes a world of these keys and of the programs of a text, and plays in it or looks at it.
+fn with_world<A: Memory>(
+    heap: &Heap,
+    alloc: A,
+    keys: &[u64],
+    text: &str,
+    aim: Aim,
+) -> Option<Seen> {
+    match world_of(heap, alloc, keys, text) {
+        Some((_, world)) => ask_new(heap, world, aim),
+        None => None,
+    }
+}
+
+/// Makes a world.
+fn make_world<A: Memory>(heap: &Heap, alloc: A) -> Option<Seen> {
+    match world_of(heap, alloc, &[1, 2], HELD) {
+        Some((before, world)) => made(world, WorldNewFault::NoMemory).seen(heap, before, true),
+        None => None,
+    }
+}
+
+impl<R: Drop> Case<R> for Played {
+    fn run(self, _rt: R, heap: &Heap) -> Option<Seen> {
+        with_world(heap, heap, self.0, self.1, Aim::Play(self))
     }
 }
 
@@ -231,7 +261,7 @@ impl<R: Drop> Case<R> for Whole {
     fn run(self, _rt: R, heap: &Heap) -> Option<Seen> {
         match self {
             Whole::New => make_world(heap, heap),
-            _ => with_world(heap, heap, self),
+            _ => with_world(heap, heap, &[1], HELD, Aim::Look(self)),
         }
     }
 }

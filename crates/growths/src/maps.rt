@@ -1,10 +1,9 @@
 //! Calls on maps as data.
 
 use crate::memory::Memory;
-use crate::rows::{EACH, Map, On, PAIR, Rows, map_of};
+use crate::rows::{EACH, Map, On, PAIR, Rows, Setup};
 use dashmap_calls::{Answer, Call, Keyed, Many, Operator, Place, Try, Walk, make};
-use dashmap_table::MapFault;
-use refusing_heap::{Heap, Line, Seen, refused_growth};
+use refusing_heap::{Line, Seen, refused_growth};
 
 /// A call on a map on which these were made before, and what it answers: where it is done; and where the first growth
 /// is refused, the second, .., and behind the last of these alike.
@@ -37,11 +36,10 @@ fn pairs_of<T: Rows, A: Memory>(map: &Map<T, A>, me: &mut T::Party) -> (u64, u64
     (map.len(me) as u64, sum)
 }
 
-/// Makes the call, and compares what stands: first that no shard is held, since who asks for one that is,
-/// waits.
-fn look<T: Rows, A: Memory>(
-    heap: &Heap,
-    table: T,
+/// Makes the call on a map that is lent, and compares what stands: first that no shard is held, since who asks for one
+/// that is, waits.
+pub fn look<T: Rows, R, A: Memory>(
+    setup: &Setup<'_, T, R, A>,
     map: &Map<T, A>,
     me: &mut T::Party,
     call: OnMap<'_>,
@@ -51,28 +49,13 @@ fn look<T: Rows, A: Memory>(
         let _answer = make(map, *other, me);
     }
     let pairs = pairs_of::<T, A>(map, me);
-    let before = heap.asked();
+    let before = setup.heap.asked();
     let answer = make(map, call, me);
-    let behind = heap.asked();
-    let growth = refused_growth(heap, before);
-    let is_so = table.are_free() && answer == wanted(done, refused, growth);
+    let behind = setup.heap.asked();
+    let growth = refused_growth(setup.heap, before);
+    let is_so = setup.table.are_free() && answer == wanted(done, refused, growth);
     let is_kept = is_so && (growth == 0 || pairs_of::<T, A>(map, me) == pairs);
     Seen::of(before, behind, is_kept)
-}
-
-/// Makes the call on a new map.
-pub fn ask_map<T: Rows, A: Memory>(
-    heap: &Heap,
-    alloc: A,
-    table: T,
-    me: &mut T::Party,
-    call: OnMap<'_>,
-) -> Option<Seen> {
-    let map: Result<Map<T, A>, MapFault> = map_of(alloc, table);
-    match map {
-        Ok(map) => look(heap, table, &map, me, call),
-        Err(_) => None,
-    }
 }
 
 const NEW: &[Call] = &[];

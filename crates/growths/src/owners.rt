@@ -1,14 +1,9 @@
-//! Calls of a map's owner, clones, calls that wait up to a moment, parallel forms of a shared map, and an entry whose
-//! key takes memory to be cloned.
+//! Calls of a map's owner, clones, calls that wait up to a moment, and parallel forms of a shared map.
 
-use crate::costly::Costly;
-use crate::memory::{Memory, is_done, listed};
-use crate::rows::{
-    EACH, FROM, MIDDLE, Map, On, PAIR, Rows, SHARDS, TO, Team, count, map_of, pairs, put,
-};
+use crate::memory::{Memory, listed};
+use crate::rows::{EACH, FROM, MIDDLE, Map, On, PAIR, Rows, Setup, TO, Team, count, pairs, put};
 use dashmap_calls::{Answer, Call, Keyed, make};
-use dashmap_map::mapref::entry::Entry;
-use dashmap_map::{DashMap, UntilFault};
+use dashmap_map::UntilFault;
 use dashmap_parallel::{ParExtendFault, ParallelMap, par_extend_shared};
 use dashmap_plain::clones::CloneMap;
 use dashmap_plain::par_extend;
@@ -98,18 +93,13 @@ fn try_reserve<T: Rows, A: Memory>(heap: &Heap, map: &mut Map<T, A>, me: &mut T:
 }
 
 fn collect<T: Rows, R: Threads + Sync, A: Memory>(
-    alloc: A,
-    rt: &R,
+    setup: &Setup<'_, T, R, A>,
     map: &Map<T, A>,
     tds: &mut [T::Party],
-) -> Said
-where
-    T::Lock: Sync,
-    T::Party: Send,
-{
+) -> Said {
     match map.par_iter(tds) {
         Ok(walk) => {
-            let list = walk.map_collect(rt, alloc, |key: &u64, _: &u64| *key);
+            let list = walk.map_collect(setup.rt, setup.alloc, |key: &u64, _: &u64| *key);
             listed(list, 2, NoMemory)
         }
         Err(_) => Said::Other,
@@ -117,39 +107,35 @@ where
 }
 
 /// Makes a call that takes no thread but this one.
-fn make_call<T: Rows, A: Memory>(
-    heap: &Heap,
-    table: T,
+fn make_call<T: Rows, R, A: Memory>(
+    setup: &Setup<'_, T, R, A>,
     map: &mut Map<T, A>,
     me: &mut T::Party,
     call: Owned,
 ) -> Came {
     match call {
         Owned::InsertMut => Came::Inserted(map.insert_mut(5, 7)),
-        Owned::TryReserve => Came::Other(try_reserve::<T, A>(heap, map, me)),
-        _ => Came::Other(made(CloneMap::clone(map, table, me), MapFault::NoMemory)),
+        Owned::TryReserve => Came::Other(try_reserve::<T, A>(setup.heap, map, me)),
+        _ => {
+            let copy = CloneMap::clone(map, setup.table, me);
+            Came::Other(made(copy, MapFault::NoMemory))
+        }
     }
 }
 
 /// Makes an extension. Answers how many growths were asked for before, too.
 fn extend<T: Rows, R: Threads + Sync, A: Memory>(
-    heap: &Heap,
-    alloc: A,
-    rt: &R,
+    setup: &Setup<'_, T, R, A>,
     map: &mut Map<T, A>,
     tds: &mut [T::Party],
     call: Owned,
-) -> Option<(u64, Came)>
-where
-    T::Lock: Sync,
-    T::Party: Send,
-{
-    let pairs = pairs(alloc)?;
-    let before = heap.asked();
+) -> Option<(u64, Came)> {
+    let pairs = pairs(setup.alloc)?;
+    let before = setup.heap.asked();
     let came = match call {
         Owned::Extend => Came::Extended(map.extend(pairs.into_iter())),
         Owned::ParExtend => Came::Extended(par_extend(map, pairs)),
-        _ => Came::Shared(par_extend_shared(map, rt, pairs, tds)),
+        _ => Came::Shared(par_extend_shared(map, setup.rt, pairs, tds)),
     };
     Some((before, came))
 }
@@ -168,168 +154,55 @@ fn insert_until<T: Rows, R: Clock, A: Memory>(
     })
 }
 
-/// Inserts into an empty map that is lent.
-fn ask_until<T: Rows, R: Clock, A: Memory>(
-    heap: &Heap,
-    rt: &R,
-    table: T,
+/// Inserts into an empty map that is lent, up to a moment that has come.
+pub fn ask_until<T: Rows, R: Clock, A: Memory>(
+    setup: &Setup<'_, T, R, A>,
     map: &Map<T, A>,
     me: &mut T::Party,
 ) -> Option<Seen> {
-    let before = heap.asked();
-    let came = insert_until::<T, R, A>(rt, map, me)?;
-    let behind = heap.asked();
-    let stands = table.are_taken(2) && compared::<T, A>(map, came, me).fits(heap);
+    let before = setup.heap.asked();
+    let came = insert_until::<T, R, A>(setup.rt, map, me)?;
+    let behind = setup.heap.asked();
+    let stands = setup.table.are_taken(2) && compared::<T, A>(map, came, me).fits(setup.heap);
     Seen::of(before, behind, stands)
-}
-
-/// Inserts into a new map, up to a moment that has come.
-pub fn insert_in_time<T: Rows, R: Clock, A: Memory>(
-    heap: &Heap,
-    alloc: A,
-    rt: &R,
-    table: T,
-    me: &mut T::Party,
-) -> Option<Seen> {
-    let map: Result<Map<T, A>, MapFault> = map_of(alloc, table);
-    match map {
-        Ok(map) => ask_until(heap, rt, table, &map, me),
-        Err(_) => None,
-    }
 }
 
 /// Makes the call. Answers how many growths were asked for before, too.
 fn make_any<T: Rows, R: Threads + Sync, A: Memory>(
-    heap: &Heap,
-    alloc: A,
-    rt: &R,
-    table: T,
+    setup: &Setup<'_, T, R, A>,
     map: &mut Map<T, A>,
     team: &mut Team<T::Party>,
     call: Owned,
-) -> Option<(u64, Came)>
-where
-    T::Lock: Sync,
-    T::Party: Send,
-{
-    let before = heap.asked();
+) -> Option<(u64, Came)> {
+    let before = setup.heap.asked();
     match call {
         Owned::Extend | Owned::ParExtend | Owned::ParExtendShared => {
-            extend::<T, R, A>(heap, alloc, rt, map, &mut team.others, call)
+            extend(setup, map, &mut team.others, call)
         }
         Owned::MapCollect => {
-            let said = collect::<T, R, A>(alloc, rt, map, &mut team.others);
+            let said = collect(setup, map, &mut team.others);
             Some((before, Came::Other(said)))
         }
-        _ => Some((before, make_call(heap, table, map, &mut team.me, call))),
+        _ => Some((before, make_call(setup, map, &mut team.me, call))),
     }
 }
 
 /// Makes the call on an empty map that is lent, behind the insertions that it needs. What stands is looked at where no
 /// shard is held, since who asks for one that is waits.
-fn ask_on<T: Rows, R: Threads + Sync, A: Memory>(
-    heap: &Heap,
-    alloc: A,
-    rt: &R,
-    table: T,
+pub fn ask_on<T: Rows, R: Threads + Sync, A: Memory>(
+    setup: &Setup<'_, T, R, A>,
     map: &mut Map<T, A>,
     team: &mut Team<T::Party>,
     call: Owned,
-) -> Option<Seen>
-where
-    T::Lock: Sync,
-    T::Party: Send,
-{
+) -> Option<Seen> {
     let is_empty = matches!(call, Owned::InsertMut);
     put::<T, A>(map, if is_empty { 0 } else { 2 }, &mut team.me);
-    let (before, came) = make_any(heap, alloc, rt, table, map, team, call)?;
-    let behind = heap.asked();
+    let (before, came) = make_any(setup, map, team, call)?;
+    let behind = setup.heap.asked();
     let rows = if let Owned::Clone = call { 4 } else { 2 };
-    let stands = table.are_taken(rows) && compared::<T, A>(map, came, &mut team.me).fits(heap);
+    let are_taken = setup.table.are_taken(rows);
+    let stands = are_taken && compared::<T, A>(map, came, &mut team.me).fits(setup.heap);
     Seen::of(before, behind, stands)
-}
-
-/// Makes the call on a new map.
-pub fn ask_owner<T: Rows, R: Threads + Sync, A: Memory>(
-    heap: &Heap,
-    alloc: A,
-    rt: &R,
-    table: T,
-    team: &mut Team<T::Party>,
-    call: Owned,
-) -> Option<Seen>
-where
-    T::Lock: Sync,
-    T::Party: Send,
-{
-    let map: Result<Map<T, A>, MapFault> = map_of(alloc, table);
-    match map {
-        Ok(mut map) => ask_on(heap, alloc, rt, table, &mut map, team, call),
-        Err(_) => None,
-    }
-}
-
-type Entries<'h, T, A> = DashMap<Costly<'h>, u64, SpreadState, <T as Rows>::Lock, A>;
-
-/// What came of an insertion of 7 at a place. A refused entry still has its key, of this number, and the value comes
-/// back.
-fn inserted_at<T: Rows, A: Memory>(
-    entry: Entry<'_, '_, Costly<'_>, u64, T::Lock, A>,
-    number: u64,
-) -> Said {
-    match entry.insert_entry(7) {
-        Ok(entry) => Said::of(*entry.get() == 7, false),
-        Err(back) => Said::of(false, back.1 == 7 && back.0.key().number() == number),
-    }
-}
-
-/// What came of an insertion of 7 at the place of a new key that stays there: it clones the key.
-fn enter<'h, T: Rows, A: Memory>(
-    map: &Entries<'h, T, A>,
-    key: Costly<'h>,
-    me: &mut T::Party,
-) -> Said {
-    let number = key.number();
-    match map.entry(key, me) {
-        Ok(entry) => inserted_at::<T, A>(entry, number),
-        Err(_key) => Said::Other,
-    }
-}
-
-/// Makes the call on a map that has another key of the same shard, so there is room for one more.
-fn ask_entries<'h, T: Rows, A: Memory>(
-    heap: &'h Heap,
-    table: T,
-    map: &Entries<'h, T, A>,
-    me: &mut T::Party,
-) -> Option<Seen> {
-    let is_put = map.insert(Costly::new(heap, 1), 0, me).is_ok();
-    let before = heap.asked();
-    let said = enter::<T, A>(map, Costly::new(heap, 3), me);
-    let length = if is_done(said) { 2 } else { 1 };
-    said.seen(
-        heap,
-        before,
-        is_put && table.are_free() && map.len(me) == length,
-    )
-}
-
-pub fn insert_entry<T: Rows, A: Memory>(
-    heap: &Heap,
-    alloc: A,
-    table: T,
-    me: &mut T::Party,
-) -> Option<Seen> {
-    let map: Result<Entries<'_, T, A>, MapFault> = DashMap::with_hasher_and_shard_amount(
-        alloc,
-        SpreadState,
-        SHARDS,
-        table,
-    );
-    match map {
-        Ok(map) => ask_entries(heap, table, &map, me),
-        Err(_) => None,
-    }
 }
 
 const ROOM: &str = "each pair; room of earlier shards";
@@ -346,12 +219,7 @@ const SHARED: On<'static> = On::Owned(Owned::ParExtendShared);
 
 const COLLECTED: On<'static> = On::Owned(Owned::MapCollect);
 
-const STANDS: &str = "entry and value come back; each other pair; no hold";
-
-const CALL: &str = "entry(..).insert_entry";
-
 pub const LINES: &[Line<On<'static>>] = &[
-    (CALL, On::InsertEntry, STANDS),
     ("insert_mut", On::Owned(Owned::InsertMut), PAIR),
     ("insert_until", On::InsertUntil, PAIR),
     ("try_reserve, two shards", RESERVED, ROOM),

@@ -1,7 +1,7 @@
 //! Recorded maps: their calls, and the gathering of what was written down.
 
 use crate::memory::{Memory, is_done, listed};
-use crate::rows::{On, Rows, SHARDS};
+use crate::rows::{On, Rows, SHARDS, Setup};
 use dashmap_record::{
     Call, CallReply, Caller, Entered, GatherFault, RecordFault, Recorded, gather,
 };
@@ -109,9 +109,8 @@ fn is_kept<T: Rows, A: Memory>(
 
 /// Makes the call. A refused one is made again, and is answered then as if it hadn't been made before. What stands is
 /// looked at where no shard is held, since who asks for one that is waits.
-fn ask<T: Rows, A: Memory>(
-    heap: &Heap,
-    table: T,
+fn ask<T: Rows, R, A: Memory>(
+    setup: &Setup<'_, T, R, A>,
     map: &Small<T, A>,
     me: &mut Me<A>,
     td: &mut T::Party,
@@ -121,17 +120,14 @@ fn ask<T: Rows, A: Memory>(
         return None;
     }
     let (last, count) = (me.last(), entries::<T, A>(map, td));
-    let before = heap.asked();
+    let before = setup.heap.asked();
     let said = said_of(make::<T, A>(map, call.1, me, td), call.2);
-    let behind = heap.asked();
-    let stood = table.are_free() && said.fits(heap);
+    let behind = setup.heap.asked();
+    let stood = setup.table.are_free() && said.fits(setup.heap);
     let is_made = is_done(said) || (stood && is_kept::<T, A>(map, (last, count), me, td, call));
-    let stands = stood && is_made && table.are_free();
-    Seen::of(
-        before,
-        behind,
-        stands && entries::<T, A>(map, td) == count.wrapping_add(1),
-    )
+    let stands = stood && is_made && setup.table.are_free();
+    let is_whole = stands && entries::<T, A>(map, td) == count.wrapping_add(1);
+    Seen::of(before, behind, is_whole)
 }
 
 /// Gathers these entries. Answers how many growths were asked for before, too.
@@ -160,26 +156,6 @@ fn gather_all<T: Rows, A: Memory>(
     Some(gather_lists(heap, alloc, map.histories(), logs, count))
 }
 
-/// A new recorded map, and its only caller.
-fn recorded<T: Rows, A: Memory>(alloc: A, table: T) -> Option<(Small<T, A>, Me<A>)> {
-    let (map, mut callers) = Recorded::new(alloc, SHARDS, Fold::new(), 1, table).ok()?;
-    Some((map, callers.pop()?))
-}
-
-/// Makes the call on a new recorded map, and looks at all that was written down.
-pub fn with_record<T: Rows, A: Memory>(
-    heap: &Heap,
-    alloc: A,
-    table: T,
-    td: &mut T::Party,
-    call: OnRecord<'_>,
-) -> Option<Seen> {
-    let (map, mut me): (Small<T, A>, Me<A>) = recorded::<T, A>(alloc, table)?;
-    let seen = ask::<T, A>(heap, table, &map, &mut me, td, call);
-    let gathered = gather_all::<T, A>(heap, alloc, map, me, call.0.len().wrapping_add(1));
-    seen?.and(is_done(gathered?.1))
-}
-
 /// Makes twelve calls.
 fn make_twelve<T: Rows, A: Memory>(map: &Small<T, A>, me: &mut Me<A>, td: &mut T::Party) -> bool {
     let mut are_done = true;
@@ -189,22 +165,65 @@ fn make_twelve<T: Rows, A: Memory>(map: &Small<T, A>, me: &mut Me<A>, td: &mut T
     are_done
 }
 
-/// Makes twelve calls, and gathers what was written down of them.
-pub fn gather_twelve<T: Rows, A: Memory>(
-    heap: &Heap,
-    alloc: A,
-    table: T,
+/// Makes the call on a recorded map that goes, and looks at all that was written down.
+fn ask_all<T: Rows, R, A: Memory>(
+    setup: &Setup<'_, T, R, A>,
+    map: Small<T, A>,
+    mut me: Me<A>,
+    td: &mut T::Party,
+    call: OnRecord<'_>,
+) -> Option<Seen> {
+    let seen = ask(setup, &map, &mut me, td, call);
+    let count = call.0.len().wrapping_add(1);
+    let gathered = gather_all::<T, A>(setup.heap, setup.alloc, map, me, count);
+    seen?.and(is_done(gathered?.1))
+}
+
+/// Makes twelve calls on a recorded map that goes, and gathers what was written down of them.
+fn gather_its<T: Rows, R, A: Memory>(
+    setup: &Setup<'_, T, R, A>,
+    map: Small<T, A>,
+    mut me: Me<A>,
     td: &mut T::Party,
 ) -> Option<Seen> {
-    let (map, mut me): (Small<T, A>, Me<A>) = recorded::<T, A>(alloc, table)?;
     let are_done = make_twelve::<T, A>(&map, &mut me, td);
-    let (before, said) = gather_all::<T, A>(heap, alloc, map, me, 12)?;
-    said.seen(heap, before, are_done)
+    let (before, said) = gather_all::<T, A>(setup.heap, setup.alloc, map, me, 12)?;
+    said.seen(setup.heap, before, are_done)
+}
+
+/// A new recorded map, and its only caller.
+fn recorded<T: Rows, A: Memory>(alloc: A, table: T) -> Option<(Small<T, A>, Me<A>)> {
+    let (map, mut callers) = Recorded::new(alloc, SHARDS, Fold::new(), 1, table).ok()?;
+    Some((map, callers.pop()?))
+}
+
+/// Makes the call on a new recorded map, and looks at all that was written down.
+pub fn with_record<T: Rows, R, A: Memory>(
+    setup: &Setup<'_, T, R, A>,
+    td: &mut T::Party,
+    call: OnRecord<'_>,
+) -> Option<Seen> {
+    match recorded::<T, A>(setup.alloc, setup.table) {
+        Some((map, me)) => ask_all(setup, map, me, td, call),
+        None => None,
+    }
+}
+
+/// Makes twelve calls on a new recorded map, and gathers what was written down of them.
+pub fn gather_twelve<T: Rows, R, A: Memory>(
+    setup: &Setup<'_, T, R, A>,
+    td: &mut T::Party,
+) -> Option<Seen> {
+    match recorded::<T, A>(setup.alloc, setup.table) {
+        Some((map, me)) => gather_its(setup, map, me, td),
+        None => None,
+    }
 }
 
 /// Makes a recorded map. The rows that it took stay used, of a refused one too.
-pub fn make_record<T: Rows, A: Memory>(heap: &Heap, alloc: A, table: T) -> Option<Seen> {
-    let before = heap.asked();
+pub fn make_record<T: Rows, R, A: Memory>(setup: &Setup<'_, T, R, A>) -> Option<Seen> {
+    let (alloc, table) = (setup.alloc, setup.table);
+    let before = setup.heap.asked();
     let map: Result<(Small<T, A>, Vec<Me<A>, A>), MapFault> = Recorded::new(
         alloc,
         SHARDS,
@@ -212,7 +231,7 @@ pub fn make_record<T: Rows, A: Memory>(heap: &Heap, alloc: A, table: T) -> Optio
         2,
         table,
     );
-    made(map, MapFault::NoMemory).seen(heap, before, table.are_taken(SHARDS))
+    made(map, MapFault::NoMemory).seen(setup.heap, before, table.are_taken(SHARDS))
 }
 
 const FOUR: &[Call<u64, u64>] = &[

@@ -1,10 +1,11 @@
 //! Calls on maps, sets and recorded maps, each over rows of a new table of locks.
 
+use crate::entries::insert_entry;
 use crate::forms::{Viewed, collect_all, with_view};
 use crate::made::{Make, make_map, make_set};
-use crate::maps::{OnMap, ask_map};
+use crate::maps::{OnMap, look};
 use crate::memory::Memory;
-use crate::owners::{Owned, ask_owner, insert_entry, insert_in_time};
+use crate::owners::{Owned, ask_on, ask_until};
 use crate::records::{OnRecord, gather_twelve, make_record, with_record};
 use crate::sets::{OnSet, with_set};
 use dashmap_calls::{Answer, Call, Many, Numbers, make as answer};
@@ -49,6 +50,17 @@ pub struct Team<P> {
     pub others: Vec<P>,
 }
 
+/// What a call is made with: the heap that refuses growths, the memory of what is called, a runtime, and a new table of
+/// locks.
+#[derive(Drop)]
+pub struct Setup<'a, T, R, A> {
+    pub heap: &'a Heap,
+    pub alloc: A,
+    pub rt: &'a R,
+    pub table: T,
+}
+
+/// A call.
 #[derive(Clone, Copy)]
 pub enum On<'a> {
     Make(Make),
@@ -107,11 +119,12 @@ pub trait Rows: Copy + Drop {
     type Runtime: Wait;
 
     /// What a thread lends to a lock.
-    type Party;
+    type Party: Send;
 
-    /// The lock of a row.
+    /// The lock of a row, which other threads may share.
     type Lock: RawRwLockTimed<Instant = Instant, Runtime = Self::Runtime, Party = Self::Party>
         + MakeLock<Self>
+        + Sync
         + Drop;
 
     /// Whether each word is 0, so nobody holds a shard or waits for one.
@@ -121,7 +134,7 @@ pub trait Rows: Copy + Drop {
     fn are_taken(self, rows: usize) -> bool;
 }
 
-impl<'t, 'l, R: Wait> Rows for &'t Table<'l, R> {
+impl<'t, 'l, R: Wait + Sync> Rows for &'t Table<'l, R> {
     type Runtime = R;
 
     type Party = ThreadData;
@@ -144,13 +157,38 @@ impl<'t, 'l, R: Wait> Rows for &'t Table<'l, R> {
     }
 }
 
+/// Makes a call on a map that is lent.
+fn ask_map<T: Rows, R: Threads + Clock + Sync, A: Memory>(
+    setup: &Setup<'_, T, R, A>,
+    map: &mut Map<T, A>,
+    team: &mut Team<T::Party>,
+    call: On<'_>,
+) -> Option<Seen> {
+    match call {
+        On::Map(call) => look(setup, map, &mut team.me, call),
+        On::InsertUntil => ask_until(setup, map, &mut team.me),
+        On::Owned(call) => ask_on(setup, map, team, call),
+        _ => None,
+    }
+}
+
+/// Makes a call on a new map.
+fn with_map<T: Rows, R: Threads + Clock + Sync, A: Memory>(
+    setup: &Setup<'_, T, R, A>,
+    team: &mut Team<T::Party>,
+    call: On<'_>,
+) -> Option<Seen> {
+    let map: Result<Map<T, A>, MapFault> = map_of(setup.alloc, setup.table);
+    match map {
+        Ok(mut map) => ask_map(setup, &mut map, team, call),
+        Err(_) => None,
+    }
+}
+
 /// Makes a call over any table of locks. What owns a map names neither lock nor heap, since that is ten times as dear
 /// to prove.
 fn ask<T: Rows, R: Threads + Clock + Sync, A: Memory>(
-    heap: &Heap,
-    alloc: A,
-    rt: &R,
-    table: T,
+    setup: &Setup<'_, T, R, A>,
     team: &mut Team<T::Party>,
     call: On<'_>,
 ) -> Option<Seen>
@@ -158,37 +196,16 @@ where
     T::Runtime: RandomSource,
 {
     match call {
-        On::Make(call) => make_map(heap, alloc, table, call),
-        On::MakeSet(call) => make_set(heap, alloc, table, call),
-        On::InsertEntry => insert_entry(heap, alloc, table, &mut team.me),
-        On::Collect => collect_all(heap, alloc, rt, table, &mut team.me),
-        On::View(call) => with_view(heap, alloc, rt, table, &mut team.me, call),
-        On::MakeRecord => make_record(heap, alloc, table),
-        On::Gather => gather_twelve(heap, alloc, table, &mut team.me),
-        On::Record(call) => with_record(heap, alloc, table, &mut team.me, call),
-        On::Map(call) => ask_map(heap, alloc, table, &mut team.me, call),
-        On::InsertUntil => insert_in_time(heap, alloc, rt, table, &mut team.me),
-        On::Owned(_) | On::Set(_) => None,
-    }
-}
-
-/// Makes a call of which some forms share their locks with other threads.
-fn share<T: Rows, R: Threads + Sync, A: Memory>(
-    heap: &Heap,
-    alloc: A,
-    rt: &R,
-    table: T,
-    team: &mut Team<T::Party>,
-    call: On<'_>,
-) -> Option<Seen>
-where
-    T::Lock: Sync,
-    T::Party: Send,
-{
-    match call {
-        On::Set(call) => with_set(heap, alloc, rt, table, team, call),
-        On::Owned(call) => ask_owner(heap, alloc, rt, table, team, call),
-        _ => None,
+        On::Make(call) => make_map(setup, call),
+        On::MakeSet(call) => make_set(setup, call),
+        On::InsertEntry => insert_entry(setup, &mut team.me),
+        On::Collect => collect_all(setup, &mut team.me),
+        On::View(call) => with_view(setup, &mut team.me, call),
+        On::MakeRecord => make_record(setup),
+        On::Gather => gather_twelve(setup, &mut team.me),
+        On::Record(call) => with_record(setup, &mut team.me, call),
+        On::Set(call) => with_set(setup, team, call),
+        On::Map(_) | On::Owned(_) | On::InsertUntil => with_map(setup, team, call),
     }
 }
 
@@ -201,23 +218,19 @@ fn add<R: Wait>(lot: &ParkingLot<R>, others: &mut Vec<ThreadData>) -> bool {
 }
 
 /// Names the lock and the memory.
-fn cross<R: Wait + Threads + Clock + RandomSource + Sync>(
-    heap: &Heap,
-    table: &Table<'_, R>,
+fn cross<'a, R: Wait + Threads + Clock + RandomSource + Sync>(
+    heap: &'a Heap,
+    table: &'a Table<'_, R>,
     team: &mut Team<ThreadData>,
     call: On<'_>,
 ) -> Option<Seen> {
-    ask(heap, heap, table.lot().runtime(), table, team, call)
-}
-
-/// The same. That the lock may be shared is found by a search, which ends in time with no more bounds than these.
-fn cross_shared<R: Wait + Threads + Sync>(
-    heap: &Heap,
-    table: &Table<'_, R>,
-    team: &mut Team<ThreadData>,
-    call: On<'_>,
-) -> Option<Seen> {
-    share(heap, heap, table.lot().runtime(), table, team, call)
+    let setup = Setup {
+        heap,
+        alloc: heap,
+        rt: table.lot().runtime(),
+        table,
+    };
+    ask(&setup, team, call)
 }
 
 /// Makes a call over a table, by a thread or two others.
@@ -230,11 +243,7 @@ fn over<R: Wait + Threads + Clock + RandomSource + Sync + Send>(
     let mut others = Vec::new(*heap.inner());
     let are_two = add(table.lot(), &mut others) && add(table.lot(), &mut others);
     let mut team = Team { me, others };
-    let seen = match call {
-        On::Owned(_) | On::Set(_) => cross_shared(heap, table, &mut team, call),
-        _ => cross(heap, table, &mut team, call),
-    };
-    seen?.and(are_two)
+    cross(heap, table, &mut team, call)?.and(are_two)
 }
 
 fn with_table<R: Wait + Threads + Clock + RandomSource + Sync + Send>(

@@ -1,7 +1,7 @@
 //! Sets: their calls, their owner's calls and their parallel forms.
 
 use crate::memory::{Memory, listed};
-use crate::rows::{FROM, On, Rows, TO, Team, keys};
+use crate::rows::{FROM, On, Rows, Setup, TO, Team, keys};
 use dashmap::set::DashSet;
 use dashmap_parallel::ParExtendFault;
 use dashmap_table::{MapFault, NoMemory, SpreadState};
@@ -87,18 +87,13 @@ fn walked<T: Rows, A: Memory>(set: &Set<T, A>, me: &mut T::Party) -> Said {
 }
 
 fn collect<T: Rows, R: Threads + Sync, A: Memory>(
-    alloc: A,
-    rt: &R,
+    setup: &Setup<'_, T, R, A>,
     set: &Set<T, A>,
     tds: &mut [T::Party],
-) -> Said
-where
-    T::Lock: Sync,
-    T::Party: Send,
-{
+) -> Said {
     match set.par_iter(tds) {
         Ok(walk) => {
-            let list = walk.map_collect(rt, alloc, |key: &u64| *key);
+            let list = walk.map_collect(setup.rt, setup.alloc, |key: &u64| *key);
             listed(list, 2, NoMemory)
         }
         Err(_) => Said::Other,
@@ -106,8 +101,8 @@ where
 }
 
 /// Makes a call that takes no thread but this one.
-fn make_call<T: Rows, A: Memory>(
-    table: T,
+fn make_call<T: Rows, R, A: Memory>(
+    setup: &Setup<'_, T, R, A>,
     set: &mut Set<T, A>,
     me: &mut T::Party,
     call: OnSet,
@@ -116,30 +111,24 @@ fn make_call<T: Rows, A: Memory>(
         OnSet::Insert => Came::Inserted(set.insert(5, me)),
         OnSet::InsertMut => Came::Inserted(set.insert_mut(5)),
         OnSet::Iter => Came::Other(walked::<T, A>(set, me)),
-        OnSet::Clone => Came::Other(made(set.clone(table, me), MapFault::NoMemory)),
+        OnSet::Clone => Came::Other(made(set.clone(setup.table, me), MapFault::NoMemory)),
         _ => Came::Other(made(set.shrink_to_fit(me), NoMemory)),
     }
 }
 
 /// Makes an extension. Answers how many growths were asked for before, too.
 fn extend<T: Rows, R: Threads + Sync, A: Memory>(
-    heap: &Heap,
-    alloc: A,
-    rt: &R,
+    setup: &Setup<'_, T, R, A>,
     set: &mut Set<T, A>,
     tds: &mut [T::Party],
     call: OnSet,
-) -> Option<(u64, Came)>
-where
-    T::Lock: Sync,
-    T::Party: Send,
-{
-    let keys = keys(alloc)?;
-    let before = heap.asked();
+) -> Option<(u64, Came)> {
+    let keys = keys(setup.alloc)?;
+    let before = setup.heap.asked();
     let came = match call {
         OnSet::Extend => Came::Extended(set.extend(keys.into_iter())),
         OnSet::ParExtend => Came::Extended(set.par_extend(keys)),
-        _ => Came::Shared(set.par_extend_shared(rt, keys, tds)),
+        _ => Came::Shared(set.par_extend_shared(setup.rt, keys, tds)),
     };
     Some((before, came))
 }
@@ -192,118 +181,84 @@ fn stands<T: Rows, A: Memory>(
     compared::<T, A>(set, came, me).fits(heap) && count::<T, A>(set, 0, keys, me) == keys
 }
 
-/// Collects the keys of a set that goes. It may do with less memory than it asks for first.
-fn collect_owned<T: Rows, R: Threads + Sync, A: Memory>(
-    heap: &Heap,
-    alloc: A,
-    rt: &R,
-    table: T,
-    set: Set<T, A>,
-) -> Option<Seen> {
-    let before = heap.asked();
-    let list = set.into_par_iter().map_collect(rt, alloc, |key: u64| key);
-    let said = listed(list, 2, NoMemory);
-    Seen::of(before, heap.asked(), said.may_fit(heap) && table.are_free())
-}
-
 /// Makes a call. Answers how many growths were asked for before, too.
 fn make<T: Rows, R: Threads + Sync, A: Memory>(
-    heap: &Heap,
-    alloc: A,
-    rt: &R,
-    table: T,
+    setup: &Setup<'_, T, R, A>,
     set: &mut Set<T, A>,
     team: &mut Team<T::Party>,
     call: OnSet,
-) -> Option<(u64, Came)>
-where
-    T::Lock: Sync,
-    T::Party: Send,
-{
-    let before = heap.asked();
+) -> Option<(u64, Came)> {
+    let before = setup.heap.asked();
     match call {
         OnSet::Extend | OnSet::ParExtend | OnSet::ParExtendShared => {
-            extend::<T, R, A>(heap, alloc, rt, set, &mut team.others, call)
+            extend(setup, set, &mut team.others, call)
         }
         OnSet::MapCollect => {
-            let said = collect::<T, R, A>(alloc, rt, set, &mut team.others);
+            let said = collect(setup, set, &mut team.others);
             Some((before, Came::Other(said)))
         }
-        _ => Some((before, make_call(table, set, &mut team.me, call))),
+        _ => Some((before, make_call(setup, set, &mut team.me, call))),
     }
 }
 
 /// Makes a call on a set that is lent.
 fn ask_set<T: Rows, R: Threads + Sync, A: Memory>(
-    heap: &Heap,
-    alloc: A,
-    rt: &R,
-    table: T,
+    setup: &Setup<'_, T, R, A>,
     set: &mut Set<T, A>,
     team: &mut Team<T::Party>,
     call: OnSet,
-) -> Option<Seen>
-where
-    T::Lock: Sync,
-    T::Party: Send,
-{
+) -> Option<Seen> {
     let is_put = prepare::<T, A>(set, &mut team.me, call);
-    let (before_it, came) = make(heap, alloc, rt, table, set, team, call)?;
-    let behind = heap.asked();
-    let is_right = is_put && table.are_free();
-    let is_right = is_right && stands::<T, A>(heap, set, before(call), came, &mut team.me);
+    let (before_it, came) = make(setup, set, team, call)?;
+    let behind = setup.heap.asked();
+    let is_right = is_put && setup.table.are_free();
+    let is_right = is_right && stands::<T, A>(setup.heap, set, before(call), came, &mut team.me);
     Seen::of(before_it, behind, is_right)
 }
 
-/// Collects the keys of a set that goes.
-fn own_set<T: Rows, R: Threads + Sync, A: Memory>(
-    heap: &Heap,
-    alloc: A,
-    rt: &R,
-    table: T,
+/// Collects the keys of a set that goes. It may do with less memory than it asks for first.
+fn collect_owned<T: Rows, R: Threads + Sync, A: Memory>(
+    setup: &Setup<'_, T, R, A>,
     set: Set<T, A>,
-    me: &mut T::Party,
 ) -> Option<Seen> {
-    let is_put = prepare::<T, A>(&set, me, OnSet::OwnedMapCollect);
-    collect_owned(heap, alloc, rt, table, set)?.and(is_put)
+    let before = setup.heap.asked();
+    let walk = set.into_par_iter();
+    let list = walk.map_collect(setup.rt, setup.alloc, |key: u64| key);
+    let said = listed(list, 2, NoMemory);
+    let behind = setup.heap.asked();
+    Seen::of(
+        before,
+        behind,
+        said.may_fit(setup.heap) && setup.table.are_free(),
+    )
 }
 
 /// Makes a call on a set, or collects its keys as it goes.
 fn ask_or_own<T: Rows, R: Threads + Sync, A: Memory>(
-    heap: &Heap,
-    alloc: A,
-    rt: &R,
-    table: T,
+    setup: &Setup<'_, T, R, A>,
     mut set: Set<T, A>,
     team: &mut Team<T::Party>,
     call: OnSet,
-) -> Option<Seen>
-where
-    T::Lock: Sync,
-    T::Party: Send,
-{
+) -> Option<Seen> {
     match call {
-        OnSet::OwnedMapCollect => own_set(heap, alloc, rt, table, set, &mut team.me),
-        _ => ask_set(heap, alloc, rt, table, &mut set, team, call),
+        OnSet::OwnedMapCollect => {
+            let is_put = prepare::<T, A>(&set, &mut team.me, call);
+            collect_owned(setup, set)?.and(is_put)
+        }
+        _ => ask_set(setup, &mut set, team, call),
     }
 }
 
 /// Makes a call on a new set.
 pub fn with_set<T: Rows, R: Threads + Sync, A: Memory>(
-    heap: &Heap,
-    alloc: A,
-    rt: &R,
-    table: T,
+    setup: &Setup<'_, T, R, A>,
     team: &mut Team<T::Party>,
     call: OnSet,
-) -> Option<Seen>
-where
-    T::Lock: Sync,
-    T::Party: Send,
-{
+) -> Option<Seen> {
+    let (alloc, table) = (setup.alloc, setup.table);
     let set: Result<Set<T, A>, MapFault> = DashSet::with_hasher(alloc, SpreadState, 1, table);
     match set {
-        Ok(set) => ask_or_own(heap, alloc, rt, table, set, team, call),
+        Ok(set) => ask_or_own(setup, set, team, call),
         Err(_) => None,
     }
 }

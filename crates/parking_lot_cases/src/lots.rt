@@ -1,7 +1,9 @@
 //! The lot, with threads and without, and the table of locks on it.
 
 use crate::memory::{Memory, is_done, listed};
-use parking_lot_core::{DEFAULT_PARK_TOKEN, Lot, LotFault, ParkingLot, SizeFault, deadlock};
+use parking_lot_core::{
+    DEFAULT_PARK_TOKEN, Lot, LotFault, ParkingLot, SizeFault, ThreadData, deadlock,
+};
 use parking_lot_rwlock::LockTable;
 use refusing_heap::{Case, Heap, Line, Said, Seen, made};
 use std::sync::Wait;
@@ -135,25 +137,45 @@ fn admit<R: Wait, A: Memory>(heap: &Heap, lot: &ParkingLot<R, A>, threads: usize
 }
 
 /// Records a resource of a thread.
-fn note<R: Wait, A: Memory>(heap: &Heap, lot: &ParkingLot<R, A>) -> Option<Seen> {
-    let mut me = lot.thread_data().ok()?;
+fn note<A: Memory>(heap: &Heap, me: &mut ThreadData<A>) -> Option<Seen> {
     let before = heap.asked();
-    let said = made(deadlock::acquire_resource(&mut me, 9), LotFault::NoMemory);
+    let said = made(deadlock::acquire_resource(me, 9), LotFault::NoMemory);
     let behind = heap.asked();
     let count = if is_done(said) { 1 } else { 0 };
-    let list = listed(deadlock::resources(&me), count, LotFault::NoMemory);
+    let list = listed(deadlock::resources(me), count, LotFault::NoMemory);
     Seen::of(before, behind, said.fits(heap) && is_done(list))
 }
 
 /// Lists the resource of a thread, which may do with less memory than it asks for first.
-fn list<R: Wait, A: Memory>(heap: &Heap, lot: &ParkingLot<R, A>) -> Option<Seen> {
-    let mut me = lot.thread_data().ok()?;
-    deadlock::acquire_resource(&mut me, 9).ok()?;
+fn list<A: Memory>(heap: &Heap, me: &mut ThreadData<A>) -> Option<Seen> {
+    if deadlock::acquire_resource(me, 9).is_err() {
+        return None;
+    }
     let before = heap.asked();
-    let said = listed(deadlock::resources(&me), 1, LotFault::NoMemory);
+    let said = listed(deadlock::resources(me), 1, LotFault::NoMemory);
     let behind = heap.asked();
-    let again = listed(deadlock::resources(&me), 1, LotFault::NoMemory);
+    let again = listed(deadlock::resources(me), 1, LotFault::NoMemory);
     Seen::of(before, behind, said.may_fit(heap) && is_done(again))
+}
+
+/// Makes a call on a thread's data that are lent.
+fn ask_thread<A: Memory>(heap: &Heap, me: &mut ThreadData<A>, call: SharedCall) -> Option<Seen> {
+    match call {
+        SharedCall::AcquireResource => note(heap, me),
+        _ => list(heap, me),
+    }
+}
+
+/// Makes a call on a new thread's data.
+fn with_thread<R: Wait, A: Memory>(
+    heap: &Heap,
+    lot: &ParkingLot<R, A>,
+    call: SharedCall,
+) -> Option<Seen> {
+    match lot.thread_data() {
+        Ok(mut me) => ask_thread(heap, &mut me, call),
+        Err(_) => None,
+    }
 }
 
 /// Makes a table of three locks. A refused one has claimed no key of the lot, of which each lock has two.
@@ -174,8 +196,7 @@ fn ask_shared<R: Wait, A: Memory>(
 ) -> Option<Seen> {
     match call {
         SharedCall::ThreadData(threads) => admit(heap, lot, threads),
-        SharedCall::AcquireResource => note(heap, lot),
-        SharedCall::Resources => list(heap, lot),
+        SharedCall::AcquireResource | SharedCall::Resources => with_thread(heap, lot, call),
         SharedCall::New | SharedCall::LockTable => make_table(heap, alloc, lot),
     }
 }

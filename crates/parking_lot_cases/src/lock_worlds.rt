@@ -67,16 +67,19 @@ fn make_world<A: Memory>(heap: &Heap, alloc: A, kinds: Kinds) -> Option<Seen> {
     made(World::new(alloc, 3, kinds), SizeFault::NoMemory).seen(heap, before, true)
 }
 
-/// A world of three threads and a lock of each kind.
-fn world_of<A: Memory>(alloc: A) -> Option<World<A>> {
-    let kinds = Vec::from_slice(alloc, EACH).ok()?;
-    World::new(alloc, 3, kinds).ok()
+/// Makes a call in a new world.
+fn in_new<A: Memory>(heap: &Heap, world: Result<World<A>, SizeFault>, call: Call) -> Option<Seen> {
+    match world {
+        Ok(mut world) => look(heap, &mut world, call),
+        Err(_) => None,
+    }
 }
 
+/// Makes a call in a world of three threads and a lock of each kind.
 fn with_world<A: Memory>(heap: &Heap, alloc: A, call: Call) -> Option<Seen> {
-    match world_of(alloc) {
-        Some(mut world) => look(heap, &mut world, call),
-        None => None,
+    match Vec::from_slice(alloc, EACH) {
+        Ok(kinds) => in_new(heap, World::new(alloc, 3, kinds), call),
+        Err(_) => None,
     }
 }
 

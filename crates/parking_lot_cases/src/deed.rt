@@ -1,8 +1,9 @@
 //! What a line does in a world or asks of it, and what comes of it, as text.
 
-use crate::words::{call, number, step};
+use crate::words::{call, named, number, step};
 use parking_lot_world::{LockAnswer, LockCall, SizeFault, World, WorldFault, WorldStep};
 use std::alloc::{AllocError, Global};
+use std::str::SplitWhitespace;
 
 /// More steps than a call makes alone.
 const MOST_STEPS: u32 = 50;
@@ -33,30 +34,55 @@ pub struct Outcome {
     pub is_done: bool,
 }
 
-/// A deed by its words; `None` where the line isn't one.
-fn read_deed(line: &str) -> Option<Deed> {
-    let mut words = line.split_whitespace();
-    let verb = words.next()?;
-    if verb == "debts" {
-        return Some(Deed::Debts);
-    }
-    let at = number(&mut words)?;
+/// What the first word of a line says of a thread, a lock or a key, whose number comes next.
+#[derive(Clone, Copy)]
+enum Verb {
+    /// What it releases is handed over where this says so.
+    Call(bool),
+    On,
+    Steps,
+    Answer,
+    Word,
+    Owners,
+    Queue,
+}
+
+const VERBS: &[(&str, Verb)] = &[
+    ("call", Verb::Call(false)),
+    ("call_fairly", Verb::Call(true)),
+    ("on", Verb::On),
+    ("steps", Verb::Steps),
+    ("answer", Verb::Answer),
+    ("word", Verb::Word),
+    ("owners", Verb::Owners),
+    ("queue", Verb::Queue),
+];
+
+/// The call of a thread by the next words: the number of its lock, and what it asks for.
+fn read_call(thread: usize, fair: bool, words: &mut SplitWhitespace<'_>) -> Option<Deed> {
+    let lock = number(words)?;
+    Some(Deed::Calls(thread, lock, call(words)?, fair))
+}
+
+/// A deed by a verb and the words behind it.
+fn read_of(verb: Verb, words: &mut SplitWhitespace<'_>) -> Option<Deed> {
+    let at = number(words)?;
     match verb {
-        "call" => {
-            let lock = number(&mut words)?;
-            Some(Deed::Calls(at, lock, call(&mut words)?, false))
-        }
-        "call_fairly" => {
-            let lock = number(&mut words)?;
-            Some(Deed::Calls(at, lock, call(&mut words)?, true))
-        }
-        "on" => Some(Deed::GoesOn(at)),
-        "steps" => Some(Deed::Steps(at, number(&mut words)?)),
-        "answer" => Some(Deed::Answer(at)),
-        "word" => Some(Deed::Word(at)),
-        "owners" => Some(Deed::Owners(at)),
-        "queue" => Some(Deed::Queue(at)),
-        _ => None,
+        Verb::Call(fair) => read_call(at, fair, words),
+        Verb::On => Some(Deed::GoesOn(at)),
+        Verb::Steps => Some(Deed::Steps(at, number(words)?)),
+        Verb::Answer => Some(Deed::Answer(at)),
+        Verb::Word => Some(Deed::Word(at)),
+        Verb::Owners => Some(Deed::Owners(at)),
+        Verb::Queue => Some(Deed::Queue(at)),
+    }
+}
+
+/// A deed by its words; `None` where the line isn't one.
+fn read_deed(words: &mut SplitWhitespace<'_>) -> Option<Deed> {
+    match words.next()? {
+        "debts" => Some(Deed::Debts),
+        verb => read_of(named(VERBS, verb)?, words),
     }
 }
 
@@ -89,10 +115,15 @@ fn of_run(alloc: Global, ran: Result<(), WorldFault>) -> Result<Outcome, AllocEr
     })
 }
 
+/// One step of a thread.
+fn go(world: &mut World, thread: usize, fair: bool) -> Result<(), WorldFault> {
+    world.run(&[WorldStep::Go(thread, fair)])
+}
+
 /// A thread goes on until its call is answered or it can't. Answers whether that came.
 fn goes_on(world: &mut World, thread: usize, fair: bool) -> bool {
     for _ in 0..MOST_STEPS {
-        if world.answer(thread).is_some() || world.run(&[WorldStep::Go(thread, fair)]).is_err() {
+        if world.answer(thread).is_some() || go(world, thread, fair).is_err() {
             return true;
         }
     }
@@ -102,7 +133,10 @@ fn goes_on(world: &mut World, thread: usize, fair: bool) -> bool {
 /// So many steps of a thread, up to the first that is refused.
 fn steps(world: &mut World, thread: usize, count: usize) -> Result<(), WorldFault> {
     for _ in 0..count {
-        world.run(&[WorldStep::Go(thread, false)])?;
+        let gone = go(world, thread, false);
+        if gone.is_err() {
+            return gone;
+        }
     }
     Ok(())
 }
@@ -184,7 +218,7 @@ fn steps_of(alloc: Global, line: &str) -> Result<Option<Vec<WorldStep>>, AllocEr
 
 /// Makes the deed that a line says, or its steps in one run.
 pub fn make(alloc: Global, world: &mut World, line: &str) -> Result<Outcome, AllocError> {
-    if let Some(deed) = read_deed(line) {
+    if let Some(deed) = read_deed(&mut line.split_whitespace()) {
         return made(alloc, world, deed);
     }
     match steps_of(alloc, line)? {

@@ -1,6 +1,6 @@
 //! A file of cases, line by line.
 
-use crate::deed::make;
+use crate::deed::{Outcome, make};
 use crate::words::{kind, number};
 use parking_lot_world::{LockKind, SizeFault, World};
 use std::alloc::{AllocError, Global};
@@ -80,23 +80,27 @@ impl<'r, R: AllocGlobal + Print> Script<'r, R> {
         }
     }
 
+    /// Compares what came of a line with what is wanted, if it says so, and tells where that didn't come.
+    fn compare(&mut self, line: &str, came: &Outcome, wanted: Option<&str>) -> io::Result<()> {
+        let is_true = match wanted {
+            Some(wanted) => came.text.as_str() == wanted,
+            None => came.is_done,
+        };
+        match is_true {
+            true => Ok(()),
+            false => self.tell(line, came.text.as_str()),
+        }
+    }
+
     /// Does what a line says, and compares.
     fn deed(&mut self, line: &str) -> io::Result<()> {
         let (says, wanted) = match line.split_once(" = ") {
             Some((says, wanted)) => (says, Some(wanted)),
             None => (line, None),
         };
-        let outcome = make(self.rt.alloc(), &mut self.world, says)?;
+        let came = make(self.rt.alloc(), &mut self.world, says)?;
         self.found.lines = self.found.lines.saturating_add(1);
-        let is_true = match wanted {
-            Some(wanted) => outcome.text.as_str() == wanted,
-            None => outcome.is_done,
-        };
-        if is_true {
-            Ok(())
-        } else {
-            self.tell(line, outcome.text.as_str())
-        }
+        self.compare(line, &came, wanted)
     }
 
     /// Does so many times what the rest of the line says.
