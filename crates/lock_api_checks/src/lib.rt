@@ -12,7 +12,7 @@ pub mod upgrades;
 
 pub use lock_api_guards::{First, Inside};
 pub use lock_api_mutex_checks::{
-    Look, Seen, Wrong, arc_guard_checks, expect, expect_all, guard_checks, is_alone, is_free,
+    Look, Seen, Wrong, acts, arc_guard_checks, expect, expect_all, guard_checks, is_alone, is_free,
     is_read, moment, mutex_checks, raw_checks, reentrant_checks, short,
 };
 pub use lock_api_spin::{PackedLock, PackedMutex, Parties};

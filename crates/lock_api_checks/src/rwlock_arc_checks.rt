@@ -30,21 +30,20 @@ pub fn lock_in_arc<R: RawRwLock + MakeLock<S> + Drop, A: Allocator, S>(
     }
 }
 
-/// An Arc guard holds the lock, lends the value to closures and gives its Arc back.
-pub fn owns_an_arc<R: RawRwLock + MakeLock<S> + Drop, A: Allocator + Copy, S>(
+/// Goes through what Arc guards lend, at a lock of 5.
+fn owns_at<R: RawRwLock + Drop, A: Allocator + Copy>(
     alloc: A,
-    source: S,
+    lock: &Arc<RwLock<R, u64>, A>,
     party: &mut R::Party,
 ) -> Result<(), Wrong>
 where
     R::Runtime: Wait,
 {
-    let lock = lock_in_arc::<R, A, S>(alloc, source, 5)?;
-    let writer = RwLock::write_arc(&lock, party);
-    let no_reader = is_refused(RwLock::try_read_arc(&lock));
-    let no_writer = is_refused(RwLock::try_write_arc(&lock));
+    let writer = RwLock::write_arc(lock, party);
+    let no_reader = is_refused(RwLock::try_read_arc(lock));
+    let no_writer = is_refused(RwLock::try_write_arc(lock));
     let wrote = writes_and_gives_its_arc_back(writer);
-    let read = reads_and_prints(alloc, RwLock::read_arc(&lock, party), &*lock);
+    let read = reads_and_prints(alloc, RwLock::read_arc(lock, party), &**lock);
     expect_all(&[
         (no_reader, "try_read_arc beside a writer: Ok(None)"),
         (no_writer, "try_write_arc beside a writer: Ok(None)"),
@@ -56,8 +55,21 @@ where
             read,
             "a read guard lets others read, reads what was written, and prints it",
         ),
-        (is_free(&*lock), "a dropped Arc guard releases"),
+        (is_free(&**lock), "a dropped Arc guard releases"),
     ])
+}
+
+/// An Arc guard holds the lock, lends the value to closures and gives its Arc back.
+pub fn owns_an_arc<R: RawRwLock + MakeLock<S> + Drop, A: Allocator + Copy, S>(
+    alloc: A,
+    source: S,
+    party: &mut R::Party,
+) -> Result<(), Wrong>
+where
+    R::Runtime: Wait,
+{
+    let lock = lock_in_arc::<R, A, S>(alloc, source, 5)?;
+    owns_at(alloc, &lock, party)
 }
 
 /// Whether a write guard is alone, writes 6 by a closure and reads it by the next one, and gives its Arc back.
@@ -100,6 +112,29 @@ where
     lent & shows_both(alloc, &reader, "6 6")
 }
 
+/// Goes through the times for which Arc guards are let go.
+fn unlocks_at<R: RawRwLockFair + Drop, A: Allocator + Copy>(
+    lock: &Arc<RwLock<R, u64>, A>,
+    party: &mut R::Party,
+) -> Result<(), Wrong>
+where
+    R::Runtime: Wait,
+{
+    let writer_let_go = unlocks_a_writer(RwLock::write_arc(lock, party), &**lock, party);
+    let reader_let_go = unlocks_a_reader(RwLock::try_read_arc(lock), &**lock, party);
+    expect_all(&[
+        (
+            writer_let_go,
+            "a write guard let go for a while and held again, and into_arc_fair releases",
+        ),
+        (
+            reader_let_go,
+            "a read guard of a try let go for a while and held again",
+        ),
+        (is_free(&**lock), "unlock_fair releases"),
+    ])
+}
+
 /// `unlocked` of Arc guards, and their fair ends.
 pub fn unlocks_for_a_while<R: RawRwLockFair + MakeLock<S> + Drop, A: Allocator + Copy, S>(
     alloc: A,
@@ -110,21 +145,7 @@ where
     R::Runtime: Wait,
 {
     let lock = lock_in_arc::<R, A, S>(alloc, source, 5)?;
-    let writer = RwLock::write_arc(&lock, party);
-    let writer_let_go = unlocks_a_writer(writer, &*lock, party);
-    let reader = RwLock::try_read_arc(&lock);
-    let reader_let_go = unlocks_a_reader(reader, &*lock, party);
-    expect_all(&[
-        (
-            writer_let_go,
-            "a write guard let go for a while and held again, and into_arc_fair releases",
-        ),
-        (
-            reader_let_go,
-            "a read guard of a try let go for a while and held again",
-        ),
-        (is_free(&*lock), "unlock_fair releases"),
-    ])
+    unlocks_at(&lock, party)
 }
 
 /// Whether a write guard is let go for a while and held again, and gives its Arc back by a fair end.

@@ -5,6 +5,7 @@
 //! otherwise than it must be.
 #![tactic(auto)]
 
+pub mod acts;
 pub mod arc_guard_checks;
 pub mod guard_checks;
 mod moments;

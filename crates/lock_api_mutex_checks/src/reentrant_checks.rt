@@ -74,25 +74,23 @@ where
 }
 
 /// One party locks twice, and the last of its holds releases. The third hold of a limit of two is refused.
-pub fn nests<
-    R: RawMutex + MakeLock<S> + Drop,
-    G: GetThreadId<Party = R::Party> + Drop,
-    A: Allocator + Copy,
-    S,
->(alloc: A, source: S, one: &mut R::Party, other: &mut R::Party) -> Result<(), Wrong>
+fn nests_at<R: RawMutex + Drop, G: GetThreadId<Party = R::Party> + Drop, A: Allocator>(
+    mutex: &Arc<ReentrantMutex<R, G, u64>, A>,
+    one: &mut R::Party,
+    other: &mut R::Party,
+) -> Result<(), Wrong>
 where
     R::Runtime: Wait,
 {
-    let mutex = mutex_in_arc::<R, G, A, S>(alloc, source)?;
     let unowned = !mutex.is_owned_by_current_thread(one);
-    let first = ReentrantMutex::lock_arc(&mutex, one);
-    let twice = holds_twice(&mutex, one, other);
+    let first = ReentrantMutex::lock_arc(mutex, one);
+    let twice = holds_twice(mutex, one, other);
     let owned = mutex.is_owned_by_current_thread(one);
     let not_by_another = !mutex.is_owned_by_current_thread(other);
     let still = mutex.is_locked();
     let read = lends_what_it_has(first, 5);
     let freed = !mutex.is_locked();
-    let had = is_given(ReentrantMutex::try_lock_arc(&mutex, other));
+    let had = is_given(ReentrantMutex::try_lock_arc(mutex, other));
     expect_all(&[
         (unowned, "nobody owns a new one"),
         (
@@ -227,19 +225,15 @@ where
 }
 
 /// `unlocked` gives the hold up for the closure's time, and fair releases release.
-pub fn unlocks_for_a_while<
-    R: RawMutexFair + MakeLock<S> + Drop,
-    G: GetThreadId<Party = R::Party> + Drop,
-    A: Allocator + Copy,
-    S,
->(alloc: A, source: S, party: &mut R::Party) -> Result<(), Wrong>
+fn unlocks_at<R: RawMutexFair + Drop, G: GetThreadId<Party = R::Party> + Drop, A: Allocator>(
+    mutex: &Arc<ReentrantMutex<R, G, u64>, A>,
+    party: &mut R::Party,
+) -> Result<(), Wrong>
 where
-    S: Copy,
     R::Runtime: Wait,
 {
-    let mutex = mutex_in_arc::<R, G, A, S>(alloc, source)?;
-    let had = ReentrantMutex::lock_arc(&mutex, party);
-    let guard = lets_go(had, &*mutex, party);
+    let had = ReentrantMutex::lock_arc(mutex, party);
+    let guard = lets_go(had, &**mutex, party);
     let owned = mutex.is_owned_by_current_thread(party);
     let ended = gives_its_arc_back_fairly(guard);
     expect_all(&[
@@ -248,8 +242,7 @@ where
             ended,
             "unlocked lets go and takes again, and into_arc_fair releases",
         ),
-    ])?;
-    gives_its_value::<R, G, S>(source)
+    ])
 }
 
 /// An Arc guard that was let go for a while and is held again.
@@ -290,9 +283,11 @@ where
 }
 
 /// What `get_mut` wrote is what is taken out, of a mutex over a raw one and of one with the value's default.
-fn gives_its_value<R: RawMutex + MakeLock<S> + Drop, G: GetThreadId<Party = R::Party> + Drop, S>(
-    source: S,
-) -> Result<(), Wrong>
+pub fn gives_its_value<
+    R: RawMutex + MakeLock<S> + Drop,
+    G: GetThreadId<Party = R::Party> + Drop,
+    S,
+>(source: S) -> Result<(), Wrong>
 where
     S: Copy,
     R::Runtime: Wait,
@@ -305,6 +300,33 @@ where
         (default == 0, "the default of a number"),
         (value == 4, "get_mut writes, into_inner_with_raw takes out"),
         (!raw.is_locked(), "into_inner_with_raw gives the raw mutex"),
+    ])
+}
+
+/// Goes through timed forms beside a hold.
+fn waits_at<
+    R: RawMutexTimed<Duration = Duration, Instant = Instant> + Drop,
+    G: GetThreadId<Party = R::Party> + Drop,
+    C: Clock,
+    A: Allocator,
+>(
+    mutex: &Arc<ReentrantMutex<R, G, u64>, A>,
+    past: Instant,
+    clock: &C,
+    one: &mut R::Party,
+    other: &mut R::Party,
+) -> Result<(), Wrong>
+where
+    R::Runtime: Wait,
+{
+    let had = ReentrantMutex::lock_arc(mutex, one);
+    let gave_up = gives_up_beside(mutex, past, clock, other);
+    let nested = is_given(ReentrantMutex::try_lock_arc_until(mutex, past, clock, one));
+    let read = lends_what_it_has(had, 5);
+    expect_all(&[
+        (gave_up, "timed tries beside a hold: Ok(None)"),
+        (nested, "try_lock_arc_until of the owner: Some"),
+        (read, "a hold beside them reads the value"),
     ])
 }
 
@@ -321,15 +343,7 @@ where
 {
     let mutex = mutex_in_arc::<R, G, A, S>(alloc, source)?;
     let past = moment(clock)?;
-    let had = ReentrantMutex::lock_arc(&mutex, one);
-    let gave_up = gives_up_beside(&mutex, past, clock, other);
-    let nested = is_given(ReentrantMutex::try_lock_arc_until(&mutex, past, clock, one));
-    let read = lends_what_it_has(had, 5);
-    expect_all(&[
-        (gave_up, "timed tries beside a hold: Ok(None)"),
-        (nested, "try_lock_arc_until of the owner: Some"),
-        (read, "a hold beside them reads the value"),
-    ])
+    waits_at(&mutex, past, clock, one, other)
 }
 
 /// Whether both timed tries of another party give up.
@@ -347,24 +361,41 @@ where
 }
 
 /// A reentrant mutex prints what it must.
-pub fn prints<
-    R: RawMutex + MakeLock<S> + Drop,
-    G: GetThreadId<Party = R::Party> + Drop,
-    A: Allocator + Copy,
-    S,
->(alloc: A, source: S, party: &mut R::Party) -> Result<(), Wrong>
+fn prints_at<R: RawMutex + Drop, G: GetThreadId<Party = R::Party> + Drop, A: Allocator + Copy>(
+    alloc: A,
+    mutex: &Arc<ReentrantMutex<R, G, u64>, A>,
+    party: &mut R::Party,
+) -> Result<(), Wrong>
 where
     R::Runtime: Wait,
 {
-    let mutex = mutex_in_arc::<R, G, A, S>(alloc, source)?;
-    let free = shows(alloc, &*mutex, "ReentrantMutex { data: 5 }");
-    let had = ReentrantMutex::lock_arc(&mutex, party);
-    let held = shows(alloc, &*mutex, "ReentrantMutex { data: <locked> }");
+    let free = shows(alloc, &**mutex, "ReentrantMutex { data: 5 }");
+    let had = ReentrantMutex::lock_arc(mutex, party);
+    let held = shows(alloc, &**mutex, "ReentrantMutex { data: <locked> }");
     let read = lends_what_it_has(had, 5);
     expect_all(&[
         (free, "Debug of a free one"),
         (held & read, "Debug of a held one"),
     ])
+}
+
+/// Arc guards nest, are let go for a while and held again, and a mutex prints what it must.
+pub fn owns_an_arc<
+    R: RawMutexFair + MakeLock<S> + Drop,
+    G: GetThreadId<Party = R::Party> + Drop,
+    A: Allocator + Copy,
+    S,
+>(alloc: A, source: S, one: &mut R::Party, other: &mut R::Party) -> Result<(), Wrong>
+where
+    R::Runtime: Wait,
+{
+    let mutex = mutex_in_arc::<R, G, A, S>(alloc, source)?;
+    let nested = nests_at(&mutex, one, other);
+    let unlocked = unlocks_at(&mutex, one);
+    let printed = prints_at(alloc, &mutex, one);
+    nested?;
+    unlocked?;
+    printed
 }
 
 /// Each check here that asks for no clock, one after the other: the first that finds something wrong says so.
@@ -378,9 +409,8 @@ where
     S: Copy,
     R::Runtime: Wait,
 {
-    nests::<R, G, A, S>(alloc, source, one, other)?;
+    owns_an_arc::<R, G, A, S>(alloc, source, one, other)?;
     nests_by_borrow::<R, G, S>(source, one, other)?;
     lends_by_borrow::<R, G, A, S>(alloc, source, one)?;
-    unlocks_for_a_while::<R, G, A, S>(alloc, source, one)?;
-    prints::<R, G, A, S>(alloc, source, one)
+    gives_its_value::<R, G, S>(source)
 }

@@ -1,18 +1,20 @@
 //! Guards of the running locks, in the forms in which programs keep them.
 
-use lock_api::{ArcMutexGuard, Guard, Mutex, NoMemory, RwLock, RwLockWriteGuard};
+use crate::steps::all_right;
+use lock_api::{ArcMutexGuard, Guard, Mutex, NoMemory, RwLock, RwLockWriteGuard, TableFull};
 use lock_api_guards::{Hold, LenderMut};
-use lock_api_raw::{RawMutex, RawMutexTimed, RawRwLock};
+use lock_api_raw::{MakeLock, RawMutex as IsMutex, RawMutexTimed, RawRwLock as IsLock};
 use parking_lot_core::ParkingLot;
-use parking_lot_rwlock::LockTable;
-use std::alloc::Global;
+use parking_lot_mutex::RawMutex;
+use parking_lot_rwlock::{LockTable, RawRwLock};
+use std::alloc::{Allocator, Global};
 use std::ops::AddAssign;
 use std::sync::{Arc, Wait};
 use std::test::Fail;
 use std::time::{Clock, Duration, Instant};
 
 /// Writes by a guard that lives for one statement, and reads by the next one.
-fn overwrites<R: RawRwLock>(lock: &RwLock<R, u64>, me: &mut R::Party, number: u64) -> bool
+fn overwrites<R: IsLock>(lock: &RwLock<R, u64>, me: &mut R::Party, number: u64) -> bool
 where
     R::Runtime: Wait,
 {
@@ -22,7 +24,7 @@ where
 }
 
 /// A guard of the lock, under which the number is written.
-fn writer_of<'m, R: RawRwLock>(
+fn writer_of<'m, R: IsLock>(
     lock: &'m RwLock<R, u64>,
     me: &mut R::Party,
     number: u64,
@@ -36,7 +38,7 @@ where
 }
 
 /// Adds to what a guard lends.
-fn add<R: RawRwLock>(writer: &mut RwLockWriteGuard<'_, R, u64>, by: u64)
+fn add<R: IsLock>(writer: &mut RwLockWriteGuard<'_, R, u64>, by: u64)
 where
     R::Runtime: Wait,
 {
@@ -92,7 +94,7 @@ impl AddAssign<u64> for Ticks {
 }
 
 /// Counts one up by a guard that lives for one statement, and once more under one that looks before and then.
-fn tick_and_look<R: RawMutex>(ticker: &Mutex<R, Ticks>, me: &mut R::Party) -> (u64, u64)
+fn tick_and_look<R: IsMutex>(ticker: &Mutex<R, Ticks>, me: &mut R::Party) -> (u64, u64)
 where
     R::Runtime: Wait,
 {
@@ -103,35 +105,117 @@ where
     (before, guard.0)
 }
 
+/// A lock that says how it is held.
+trait Held {
+    /// Whether one holds it alone.
+    fn is_alone(&self) -> bool;
+
+    /// Whether anybody holds it.
+    fn is_held(&self) -> bool;
+}
+
+impl<R: IsLock, T> Held for RwLock<R, T> {
+    fn is_alone(&self) -> bool {
+        self.is_locked_exclusive()
+    }
+
+    fn is_held(&self) -> bool {
+        self.is_locked()
+    }
+}
+
+impl<R: IsMutex, T> Held for Mutex<R, T> {
+    fn is_alone(&self) -> bool {
+        self.is_locked()
+    }
+
+    fn is_held(&self) -> bool {
+        self.is_locked()
+    }
+}
+
+/// What a number was before it is written by a guard that an entry keeps, and whether it is read then, and the lock is
+/// held until the entry is closed.
+fn sets_and_closes<W: LenderMut<Part = u64> + Drop, H: Hold, L: Held>(
+    guard: Guard<W, H>,
+    number: u64,
+    lock: &L,
+) -> (u64, bool)
+where
+    H::Runtime: Wait,
+{
+    let mut entry = Entry::new(guard);
+    let before = *entry.guard;
+    let set = entry.set(number) == number;
+    let held = lock.is_alone();
+    let closed = entry.close();
+    (before, set & held & closed & !lock.is_held())
+}
+
+/// Whether guards of a lock are kept and handed on, and 5 is written last.
+fn hands_on<R: IsLock>(lock: &RwLock<R, u64>, me: &mut R::Party) -> bool
+where
+    R::Runtime: Wait,
+{
+    let overwrote = overwrites(lock, me, 1) & overwrites(lock, me, 2);
+    let mut writer = writer_of(lock, me, 3);
+    add(&mut writer, 1);
+    overwrote & (sets_and_closes(writer, 5, lock) == (4, true))
+}
+
+/// The same of a lock that is made of this.
+fn lock_hands_on<R: IsLock + MakeLock<S> + Drop, S>(
+    source: S,
+    me: &mut R::Party,
+) -> Result<bool, TableFull>
+where
+    R::Runtime: Wait,
+{
+    let lock = RwLock::<R, u64>::new(source, 5, 0)?;
+    let handed = hands_on(&lock, me);
+    Ok(handed & (lock.into_inner() == 5))
+}
+
+/// Whether a mutex's guard is kept and handed on.
+fn counter_hands_on<R: IsMutex + MakeLock<S> + Drop, S>(
+    source: S,
+    me: &mut R::Party,
+) -> Result<bool, TableFull>
+where
+    R::Runtime: Wait,
+{
+    let counter = Mutex::<R, u64>::new(source, 1)?;
+    let handed = sets_and_closes(counter.lock(me), 6, &counter) == (1, true);
+    Ok(handed & (counter.into_inner() == 6))
+}
+
+/// Whether one is counted up by guards that live for a statement, and by those that live on.
+fn ticker_counts<R: IsMutex + MakeLock<S> + Drop, S>(
+    source: S,
+    me: &mut R::Party,
+) -> Result<bool, TableFull>
+where
+    R::Runtime: Wait,
+{
+    let ticker = Mutex::<R, Ticks>::new(source, Ticks(0))?;
+    let first = tick_and_look(&ticker, me) == (1, 2);
+    Ok(first & (tick_and_look(&ticker, me) == (3, 4)))
+}
+
 #[test]
 fn guards_are_kept_and_handed_on(rt: HostRuntime) -> Result<(), Fail> {
     let lot = ParkingLot::new(rt, rt.alloc(), 1, 7)?;
     let mut me = lot.thread_data()?;
     let table = LockTable::new(rt.alloc(), &lot, 3)?;
-    let lock: RwLock<parking_lot_rwlock::RawRwLock<HostRuntime, 0>, u64> = RwLock::new(
-        &table, 5, 0,
-    )?;
-    assert!(rt; overwrites(&lock, &mut me, 1) & overwrites(&lock, &mut me, 2));
-    let mut writer = writer_of(&lock, &mut me, 3);
-    add(&mut writer, 1);
-    let mut entry = Entry::new(writer);
-    assert!(rt; (entry.set(5) == 5) & lock.is_locked_exclusive());
-    assert!(rt; entry.close() & !lock.is_locked() & (lock.into_inner() == 5));
-    let counter: Mutex<parking_lot_mutex::RawMutex<HostRuntime>, u64> = Mutex::new(&table, 1)?;
-    let mut tally = Entry::new(counter.lock(&mut me));
-    assert!(rt; (tally.set(6) == 6) & counter.is_locked());
-    assert!(rt; tally.close() & !counter.is_locked() & (counter.into_inner() == 6));
-    let ticker: Mutex<parking_lot_mutex::RawMutex<HostRuntime>, Ticks> = Mutex::new(
-        &table,
-        Ticks(0),
-    )?;
-    assert!(rt; tick_and_look(&ticker, &mut me) == (1, 2));
-    assert!(rt; tick_and_look(&ticker, &mut me) == (3, 4));
+    let of_lock = lock_hands_on::<RawRwLock<HostRuntime, 0>, _>(&table, &mut me) == Ok(true);
+    let of_counter = counter_hands_on::<RawMutex<HostRuntime>, _>(&table, &mut me) == Ok(true);
+    let of_ticker = ticker_counts::<RawMutex<HostRuntime>, _>(&table, &mut me) == Ok(true);
+    all_right(&rt, &[of_lock, of_counter, of_ticker]);
     Ok(())
 }
 
 /// Whether there is a guard, by which 1 is added.
-fn adds<R: RawMutex + Drop>(had: Result<Option<ArcMutexGuard<R, u64, Global>>, NoMemory>) -> bool
+fn adds<R: IsMutex + Drop>(had: Result<Option<ArcMutexGuard<R, u64, Global>>, NoMemory>) -> bool
 where
     R::Runtime: Wait,
 {
@@ -163,25 +247,75 @@ where
     ]
 }
 
+/// Words of which the first can be looked at.
+trait Words {
+    /// The first word.
+    fn first(&self) -> Option<u64>;
+}
+
+impl<R, A: Allocator> Words for LockTable<'_, R, A> {
+    fn first(&self) -> Option<u64> {
+        self.word(0)
+    }
+}
+
+/// Whether calls beside a guard of a mutex give up, those at a free one have it, and its word is left as it must be.
+fn has_it_in_time<R, C: Clock, W: Words>(
+    clock: &C,
+    mutex: &Arc<Mutex<R, u64>, Global>,
+    words: &W,
+    past: Instant,
+    one: &mut R::Party,
+    other: &mut R::Party,
+) -> bool
+where
+    R: RawMutexTimed<Duration = Duration, Instant = Instant> + Drop,
+    R::Runtime: Wait,
+{
+    let short = Duration::from_millis(1);
+    let guard = mutex.lock(one);
+    let beside = have_it(clock, mutex, past, other, short);
+    let is_left = words.first() == Some(1);
+    drop(guard);
+    let free = have_it(clock, mutex, past, other, short);
+    let at_length = have_it(clock, mutex, past, other, Duration::MAX);
+    (beside == [false; 2]) & is_left & (free == [true; 2]) & (at_length == [true; 2])
+}
+
+/// The same of a mutex of 5 in an Arc that is made of this. Four calls have added 1 to it then.
+fn arc_has_it_in_time<R: MakeLock<S>, S, C: Clock, W: Words>(
+    clock: &C,
+    alloc: Global,
+    source: S,
+    words: &W,
+    one: &mut R::Party,
+    other: &mut R::Party,
+) -> Result<bool, Fail>
+where
+    R: RawMutexTimed<Duration = Duration, Instant = Instant> + Drop,
+    R::Runtime: Wait,
+{
+    let mutex = Arc::new(alloc, Mutex::<R, u64>::new(source, 5)?)?;
+    let past = Instant::now(clock)?;
+    let in_time = has_it_in_time(clock, &mutex, words, past, one, other);
+    let tallied = sets_and_closes(mutex.lock(one), 1, &*mutex) == (9, true);
+    Ok(in_time & tallied & (words.first() == Some(0)))
+}
+
 #[test]
 fn a_mutex_in_an_arc_is_had_in_time_or_given_up(rt: HostRuntime) -> Result<(), Fail> {
     let lot = ParkingLot::new(rt, rt.alloc(), 2, 7)?;
     let mut one = lot.thread_data()?;
     let mut other = lot.thread_data()?;
     let table = LockTable::new(rt.alloc(), &lot, 1)?;
-    let mutex: Mutex<parking_lot_mutex::RawMutex<HostRuntime>, u64> = Mutex::new(&table, 5)?;
-    let mutex = Arc::new(rt.alloc(), mutex)?;
-    let past = Instant::now(&rt)?;
-    let short = Duration::from_millis(1);
-    let guard = mutex.lock(&mut one);
-    let beside = have_it(&rt, &mutex, past, &mut other, short);
-    let is_left = table.word(0) == Some(1);
-    drop(guard);
-    assert!(rt; (beside == [false; 2]) & is_left);
-    assert!(rt; have_it(&rt, &mutex, past, &mut other, short) == [true; 2]);
-    assert!(rt; have_it(&rt, &mutex, past, &mut other, Duration::MAX) == [true; 2]);
-    let mut tally = Entry::new(mutex.lock(&mut one));
-    let sum = *tally.guard;
-    assert!(rt; (sum == 9) & (tally.set(1) == 1) & tally.close() & (table.word(0) == Some(0)));
+    let had = arc_has_it_in_time::<RawMutex<HostRuntime>, _, _, _>(
+        &rt,
+        rt.alloc(),
+        &table,
+        &table,
+        &mut one,
+        &mut other,
+    )?;
+    assert!(rt; had);
     Ok(())
 }

@@ -1,10 +1,8 @@
 //! Tests of the raw locks of one atomic word, and of the generic locks over them.
 mod mapped;
-mod mutexes;
-mod reentrant;
-mod rwlocks;
 
 use crate::steps::all_right;
+use lock_api::ReentrantArcFault;
 use lock_api_raw::{
     GetThreadId, MakeLock as _, RawMutex, RawMutexTimed, RawRwLock, RawRwLockUpgrade,
 };
@@ -69,4 +67,18 @@ fn parties_are_told_apart(rt: HostRuntime) {
         let told = Parties::new().nonzero_thread_id(&party).get();
         assert!(rt; told == id, "party {party}: {told}");
     }
+}
+
+#[test]
+fn refusals_of_arc_forms_have_codes_and_names(rt: HostRuntime) -> Result<(), Fail> {
+    let alloc = rt.alloc();
+    let faults = [
+        (ReentrantArcFault::NoMemory, 99, "NoMemory"),
+        (ReentrantArcFault::ReadersFull, 6, "ReadersFull"),
+    ];
+    for (fault, code, name) in faults {
+        let text = fault.to_string(alloc)?;
+        assert!(rt; fault.code() == code && text.as_str() == name, "of {name}");
+    }
+    Ok(())
 }

@@ -16,7 +16,7 @@ use lock_api_raw::{
 };
 use std::alloc::Allocator;
 use std::rt::Clock;
-use std::sync::Wait;
+use std::sync::{Arc, Wait};
 use std::time::{Duration, Instant};
 
 /// Whether one guard was had and another beside it wasn't.
@@ -46,6 +46,34 @@ where
     read_waited & read_at_once & write_waited & write_at_once
 }
 
+/// Goes through timed forms at a lock of 5: beside a writer, beside a reader and beside nobody.
+fn waits_at<R: RawRwLockTimed<Duration = Duration, Instant = Instant>, C: Clock>(
+    lock: &RwLock<R, u64>,
+    past: Instant,
+    clock: &C,
+    party: &mut R::Party,
+) -> Result<(), Wrong>
+where
+    R::Runtime: Wait,
+{
+    let writer = lock.write(party);
+    let beside_a_writer = answers_in_time(lock, past, clock, party, false, false);
+    drop(writer);
+    let reader = lock.read(party);
+    let beside_a_reader = answers_in_time(lock, past, clock, party, true, false);
+    drop(reader);
+    let free = answers_in_time(lock, past, clock, party, true, true);
+    expect_all(&[
+        (
+            beside_a_writer,
+            "timed reads and writes beside a writer: None",
+        ),
+        (beside_a_reader, "beside a reader timed reads alone: Some"),
+        (free, "timed reads and writes of a free lock: Some"),
+        (is_free(lock), "each of them released"),
+    ])
+}
+
 /// Timed forms give up beside a guard that excludes them, and have a free lock. A moment that has come gives up at
 /// once.
 pub fn gives_up_in_time<
@@ -58,22 +86,48 @@ where
 {
     let lock = RwLock::<R, u64>::new(source, 4, 5)?;
     let past = moment(clock)?;
-    let writer = lock.write(party);
-    let beside_a_writer = answers_in_time(&lock, past, clock, party, false, false);
-    drop(writer);
-    let reader = lock.read(party);
-    let beside_a_reader = answers_in_time(&lock, past, clock, party, true, false);
-    drop(reader);
-    let free = answers_in_time(&lock, past, clock, party, true, true);
-    expect_all(&[
-        (
-            beside_a_writer,
-            "timed reads and writes beside a writer: None",
-        ),
-        (beside_a_reader, "beside a reader timed reads alone: Some"),
-        (free, "timed reads and writes of a free lock: Some"),
-        (is_free(&lock), "each of them released"),
-    ])
+    waits_at(&lock, past, clock, party)
+}
+
+/// Whether timed Arc forms give up or not as they must beside a reader: both writes do, and a read doesn't.
+fn waits_beside_a_reader<
+    R: RawRwLockTimed<Duration = Duration, Instant = Instant> + Drop,
+    C: Clock,
+    A: Allocator,
+>(
+    lock: &Arc<RwLock<R, u64>, A>,
+    past: Instant,
+    clock: &C,
+    party: &mut R::Party,
+) -> (bool, bool, bool)
+where
+    R::Runtime: Wait,
+{
+    let _reader = lock.read(party);
+    let waited = is_refused(RwLock::try_write_arc_for(lock, short(), clock, party));
+    let at_once = is_refused(RwLock::try_write_arc_until(lock, past, clock, party));
+    let read = is_given(RwLock::try_read_arc_for(lock, short(), clock, party));
+    (waited, at_once, read)
+}
+
+/// Whether a timed Arc write of a free lock is had, is alone and lets no timed read in.
+fn waits_to_write<
+    R: RawRwLockTimed<Duration = Duration, Instant = Instant> + Drop,
+    C: Clock,
+    A: Allocator,
+>(
+    lock: &Arc<RwLock<R, u64>, A>,
+    past: Instant,
+    clock: &C,
+    party: &mut R::Party,
+) -> (bool, bool, bool)
+where
+    R::Runtime: Wait,
+{
+    let writer = RwLock::try_write_arc_until(lock, past, clock, party);
+    let written = is_alone(&**lock);
+    let unread = is_refused(RwLock::try_read_arc_until(lock, past, clock, party));
+    (is_given(writer), written, unread)
 }
 
 /// Timed Arc forms give up beside a guard that excludes them, and have a free lock.
@@ -88,15 +142,8 @@ where
 {
     let lock = lock_in_arc::<R, A, S>(alloc, source, 5)?;
     let past = moment(clock)?;
-    let reader = lock.read(party);
-    let waited = is_refused(RwLock::try_write_arc_for(&lock, short(), clock, party));
-    let at_once = is_refused(RwLock::try_write_arc_until(&lock, past, clock, party));
-    let read = is_given(RwLock::try_read_arc_for(&lock, short(), clock, party));
-    drop(reader);
-    let writer = RwLock::try_write_arc_until(&lock, past, clock, party);
-    let written = is_alone(&*lock);
-    let unread = is_refused(RwLock::try_read_arc_until(&lock, past, clock, party));
-    let had = is_given(writer);
+    let (waited, at_once, read) = waits_beside_a_reader(&lock, past, clock, party);
+    let (had, written, unread) = waits_to_write(&lock, past, clock, party);
     expect_all(&[
         (waited, "try_write_arc_for beside a reader: Ok(None)"),
         (at_once, "try_write_arc_until beside a reader: Ok(None)"),
@@ -106,6 +153,38 @@ where
         (unread, "try_read_arc_until beside a writer: Ok(None)"),
         (is_free(&*lock), "a dropped Arc guard releases"),
     ])
+}
+
+/// Whether a timed upgradable read of a free lock is had, and another beside it isn't.
+fn waits_to_read<R: RawRwLockUpgradeTimed<Duration = Duration, Instant = Instant>, C: Clock>(
+    lock: &RwLock<R, u64>,
+    past: Instant,
+    clock: &C,
+    party: &mut R::Party,
+) -> bool
+where
+    R::Runtime: Wait,
+{
+    let upgradable = lock.try_upgradable_read_for(short(), clock, party);
+    is_had_alone(
+        upgradable,
+        lock.try_upgradable_read_until(past, clock, party),
+    )
+}
+
+/// Goes through timed upgrades at a lock of 5.
+fn upgrades_at<
+    R: RawRwLockUpgradeTimed<Duration = Duration, Instant = Instant> + RawRwLockUpgradeDowngrade,
+    C: Clock,
+>(lock: &RwLock<R, u64>, past: Instant, clock: &C, party: &mut R::Party) -> (bool, bool)
+where
+    R::Runtime: Wait,
+{
+    let upgradable = lock.upgradable_read(party);
+    let upgraded = upgrades_in_time(upgradable, lock.read(party), lock, past, clock, party);
+    let upgradable = lock.upgradable_read(party);
+    let wrote = writes_in_time(upgradable, lock.read(party), lock, past, clock, party);
+    (upgraded, wrote)
 }
 
 /// An upgrade that gives up gives the same guard back, still held, and one beside nobody succeeds. Writing under an
@@ -123,13 +202,8 @@ where
 {
     let lock = RwLock::<R, u64>::new(source, 4, 5)?;
     let past = moment(clock)?;
-    let upgradable = lock.try_upgradable_read_for(short(), clock, party);
-    let other = lock.try_upgradable_read_until(past, clock, party);
-    let alone = is_had_alone(upgradable, other);
-    let upgradable = lock.upgradable_read(party);
-    let upgraded = upgrades_in_time(upgradable, lock.read(party), &lock, past, clock, party);
-    let upgradable = lock.upgradable_read(party);
-    let wrote = writes_in_time(upgradable, lock.read(party), &lock, past, clock, party);
+    let alone = waits_to_read(&lock, past, clock, party);
+    let (upgraded, wrote) = upgrades_at(&lock, past, clock, party);
     expect_all(&[
         (
             alone,
@@ -238,6 +312,39 @@ where
     refused & wrote & is_read(lock)
 }
 
+/// Whether a timed upgradable Arc read of a free lock is had, and another beside it isn't.
+fn waits_for_an_arc<
+    R: RawRwLockUpgradeTimed<Duration = Duration, Instant = Instant> + Drop,
+    C: Clock,
+    A: Allocator,
+>(lock: &Arc<RwLock<R, u64>, A>, past: Instant, clock: &C, party: &mut R::Party) -> bool
+where
+    R::Runtime: Wait,
+{
+    let upgradable = RwLock::try_upgradable_read_arc_for(lock, short(), clock, party);
+    let other = RwLock::try_upgradable_read_arc_until(lock, past, clock, party);
+    is_refused(other) & is_given(upgradable)
+}
+
+/// Goes through timed upgrades of Arc guards at a lock of 5.
+fn upgrades_an_arc_at<
+    R: RawRwLockUpgradeTimed<Duration = Duration, Instant = Instant>
+        + RawRwLockUpgradeDowngrade
+        + Drop,
+    C: Clock,
+    A: Allocator,
+>(lock: &Arc<RwLock<R, u64>, A>, past: Instant, clock: &C, party: &mut R::Party) -> (bool, bool)
+where
+    R::Runtime: Wait,
+{
+    let upgradable = RwLock::upgradable_read_arc(lock, party);
+    let reader = lock.read(party);
+    let upgraded = upgrades_an_arc_in_time(upgradable, reader, &**lock, past, clock, party);
+    let upgradable = RwLock::upgradable_read_arc(lock, party);
+    let wrote = writes_an_arc_in_time(upgradable, lock.read(party), past, clock, party);
+    (upgraded, wrote)
+}
+
 /// Timed upgrades of Arc guards, and writing under a guard that was upgraded so.
 pub fn gives_up_an_upgrade_of_an_arc<
     R: RawRwLockUpgradeTimed<Duration = Duration, Instant = Instant>
@@ -253,14 +360,8 @@ where
 {
     let lock = lock_in_arc::<R, A, S>(alloc, source, 5)?;
     let past = moment(clock)?;
-    let upgradable = RwLock::try_upgradable_read_arc_for(&lock, short(), clock, party);
-    let other = RwLock::try_upgradable_read_arc_until(&lock, past, clock, party);
-    let alone = is_refused(other) & is_given(upgradable);
-    let upgradable = RwLock::upgradable_read_arc(&lock, party);
-    let reader = lock.read(party);
-    let upgraded = upgrades_an_arc_in_time(upgradable, reader, &*lock, past, clock, party);
-    let upgradable = RwLock::upgradable_read_arc(&lock, party);
-    let wrote = writes_an_arc_in_time(upgradable, lock.read(party), past, clock, party);
+    let alone = waits_for_an_arc(&lock, past, clock, party);
+    let (upgraded, wrote) = upgrades_an_arc_at(&lock, past, clock, party);
     expect_all(&[
         (
             alone,
@@ -365,4 +466,23 @@ where
         *value = value.wrapping_add(1);
     });
     waited.is_none() & alone.is_some() & lends_to_closures(&upgradable, 6)
+}
+
+/// Each check here, one after the other: the first that finds something wrong says so.
+pub fn all<
+    R: RawRwLockUpgradeTimed<Duration = Duration, Instant = Instant>
+        + RawRwLockUpgradeDowngrade
+        + MakeLock<S>
+        + Drop,
+    C: Clock,
+    A: Allocator + Copy,
+    S: Copy,
+>(alloc: A, source: S, clock: &C, party: &mut R::Party) -> Result<(), Wrong>
+where
+    R::Runtime: Wait,
+{
+    gives_up_in_time::<R, C, S>(source, clock, party)?;
+    gives_up_an_arc_in_time::<R, C, A, S>(alloc, source, clock, party)?;
+    gives_up_an_upgrade::<R, C, S>(source, clock, party)?;
+    gives_up_an_upgrade_of_an_arc::<R, C, A, S>(alloc, source, clock, party)
 }

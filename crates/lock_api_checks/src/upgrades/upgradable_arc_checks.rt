@@ -13,23 +13,21 @@ use lock_api_guards::{
 };
 use lock_api_raw::{MakeLock, NoMemory, RawRwLockUpgrade, RawRwLockUpgradeDowngrade};
 use std::alloc::Allocator;
-use std::sync::Wait;
+use std::sync::{Arc, Wait};
 
-/// An Arc guard is upgraded where no reader is left, and else comes back, still held.
-pub fn upgrades<R: RawRwLockUpgrade + MakeLock<S> + Drop, A: Allocator + Copy, S>(
-    alloc: A,
-    source: S,
+/// Goes through upgrades of Arc guards at a lock of 5, by a try and by a wait.
+fn upgrades_at<R: RawRwLockUpgrade + Drop, A: Allocator + Copy>(
+    lock: &Arc<RwLock<R, u64>, A>,
     party: &mut R::Party,
 ) -> Result<(), Wrong>
 where
     R::Runtime: Wait,
 {
-    let lock = lock_in_arc::<R, A, S>(alloc, source, 5)?;
-    let upgradable = RwLock::upgradable_read_arc(&lock, party);
-    let alone = is_refused(RwLock::try_upgradable_read_arc(&lock));
-    let tried = tries_to_upgrade(upgradable, lock.read(party), &*lock);
-    let freed = is_free(&*lock);
-    let waited = waits_to_upgrade(RwLock::try_upgradable_read_arc(&lock), &*lock, party);
+    let upgradable = RwLock::upgradable_read_arc(lock, party);
+    let alone = is_refused(RwLock::try_upgradable_read_arc(lock));
+    let tried = tries_to_upgrade(upgradable, lock.read(party), &**lock);
+    let freed = is_free(&**lock);
+    let waited = waits_to_upgrade(RwLock::try_upgradable_read_arc(lock), &**lock, party);
     expect_all(&[
         (
             alone,
@@ -41,8 +39,21 @@ where
         ),
         (freed, "a guard that was upgraded at once releases"),
         (waited, "a guard of a try that waited to upgrade is alone"),
-        (is_free(&*lock), "a guard that waited to upgrade releases"),
+        (is_free(&**lock), "a guard that waited to upgrade releases"),
     ])
+}
+
+/// An Arc guard is upgraded where no reader is left, and else comes back, still held.
+pub fn upgrades<R: RawRwLockUpgrade + MakeLock<S> + Drop, A: Allocator + Copy, S>(
+    alloc: A,
+    source: S,
+    party: &mut R::Party,
+) -> Result<(), Wrong>
+where
+    R::Runtime: Wait,
+{
+    let lock = lock_in_arc::<R, A, S>(alloc, source, 5)?;
+    upgrades_at(&lock, party)
 }
 
 /// Whether an upgradable guard of 5 comes back from its try beside a reader, holds and reads, and is upgraded by a try
@@ -90,6 +101,27 @@ where
     is_alone(lock)
 }
 
+/// Goes through what is written under an upgraded Arc guard, at a lock of 4.
+fn writes_upgraded_at<R: RawRwLockUpgradeDowngrade + Drop, A: Allocator + Copy>(
+    lock: &Arc<RwLock<R, u64>, A>,
+    party: &mut R::Party,
+) -> Result<(), Wrong>
+where
+    R::Runtime: Wait,
+{
+    let upgradable = becomes_upgradable(RwLock::write_arc(lock, party));
+    let (alone, upgradable) = writes_alone(upgradable, &**lock, party);
+    let turned = writes_beside_nobody(upgradable, lock.read(party), &**lock);
+    expect_all(&[
+        (alone, "with_upgraded wrote, and isn't alone afterwards"),
+        (
+            turned,
+            "try_with_upgraded wrote beside nobody alone, and downgrade keeps the value",
+        ),
+        (is_free(&**lock), "a guard that became a reader releases"),
+    ])
+}
+
 /// The value is written under an upgraded Arc guard for a closure's time, and each mode is turned into the next.
 pub fn writes_upgraded<R: RawRwLockUpgradeDowngrade + MakeLock<S> + Drop, A: Allocator + Copy, S>(
     alloc: A,
@@ -100,17 +132,7 @@ where
     R::Runtime: Wait,
 {
     let lock = lock_in_arc::<R, A, S>(alloc, source, 4)?;
-    let upgradable = becomes_upgradable(RwLock::write_arc(&lock, party));
-    let (alone, upgradable) = writes_alone(upgradable, &*lock, party);
-    let turned = writes_beside_nobody(upgradable, lock.read(party), &*lock);
-    expect_all(&[
-        (alone, "with_upgraded wrote, and isn't alone afterwards"),
-        (
-            turned,
-            "try_with_upgraded wrote beside nobody alone, and downgrade keeps the value",
-        ),
-        (is_free(&*lock), "a guard that became a reader releases"),
-    ])
+    writes_upgraded_at(&lock, party)
 }
 
 /// The upgradable guard that a writer becomes.
@@ -172,4 +194,17 @@ where
     let reader = ArcGuard::downgrade(upgradable);
     let shared = is_shared(lock);
     refused & uncalled & tried & shared & lends_to_closures(&reader, 7)
+}
+
+/// Each check here, one after the other: the first that finds something wrong says so.
+pub fn all<R: RawRwLockUpgradeDowngrade + MakeLock<S> + Drop, A: Allocator + Copy, S: Copy>(
+    alloc: A,
+    source: S,
+    party: &mut R::Party,
+) -> Result<(), Wrong>
+where
+    R::Runtime: Wait,
+{
+    upgrades::<R, A, S>(alloc, source, party)?;
+    writes_upgraded::<R, A, S>(alloc, source, party)
 }

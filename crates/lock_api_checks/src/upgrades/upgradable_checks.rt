@@ -1,11 +1,10 @@
-//! Checks of upgradable guards of the reader-writer lock.
+//! Checks of upgradable guards of the reader-writer lock, as tables of what is done at it.
 //!
-//! What is done with a guard stands in functions over any hold: at a named lock each such call would cost a proof ten
-//! times as long.
+//! A check lends its lock to the function that goes through its table. What is done with a guard stands in functions
+//! over any hold: at a named lock each such call would cost a proof ten times as long.
 
-use crate::guard_checks::{
-    lends, prints_its_value, shows, unlocks_for_a_while as lets_go_for_a_while, writes,
-};
+use crate::acts::Act;
+use crate::guard_checks::{lends, unlocks_for_a_while, writes};
 use crate::raw_checks::TURNS;
 use crate::{Look, Seen, Wrong, expect, expect_all, is_alone, is_free, is_read};
 use lock_api::{Guard, RwLock};
@@ -13,8 +12,10 @@ use lock_api_guards::{
     Access, DowngradeHold, DowngradeToUpgradable, FairHold, Hold, Lender, LenderMut, RestoreHold,
     RwLockHold, UpgradeHold,
 };
+use lock_api_mutex_checks::acts::does_by_reader;
 use lock_api_raw::{MakeLock, RawRwLockUpgrade, RawRwLockUpgradeDowngrade, RawRwLockUpgradeFair};
 use std::alloc::Allocator;
+use std::fmt::Debug;
 use std::sync::Wait;
 use std::thread;
 use std::thread::Threads;
@@ -29,6 +30,74 @@ enum Holder {
     UpgradableAndReader,
     Writer,
 }
+
+/// What is seen of a lock of 5, or done at it.
+#[derive(Clone, Copy)]
+enum Step {
+    /// Beside that holder it shows itself so, and lets in an upgradable reader or not.
+    Beside(Holder, Seen, bool),
+    /// This is done by an upgradable guard.
+    By(Act),
+}
+
+/// Of a lock of four readers: beside an upgradable guard there are readers, and neither a writer nor another upgradable
+/// guard; `unlocked` lets one go for the closure's time, and it is held again afterwards; it prints its value, and so
+/// does the lock, which a reader may take beside it.
+const ADMITS_ONE: [(Step, &str); 9] = [
+    (
+        Step::Beside(Holder::Reader, Seen::Read, true),
+        "beside a reader",
+    ),
+    (
+        Step::Beside(Holder::Upgradable, Seen::Read, false),
+        "beside an upgradable guard",
+    ),
+    (
+        Step::Beside(Holder::Nobody, Seen::Free, true),
+        "a dropped upgradable guard releases",
+    ),
+    (
+        Step::Beside(Holder::Writer, Seen::Alone, false),
+        "beside a writer",
+    ),
+    (
+        Step::Beside(Holder::Nobody, Seen::Free, true),
+        "each of them released",
+    ),
+    (Step::By(Act::Reads(5)), "an upgradable guard reads"),
+    (
+        Step::By(Act::LetsGo(Seen::Read)),
+        "let go for a while, upgradable again, and of its lock",
+    ),
+    (
+        Step::Beside(Holder::Nobody, Seen::Free, true),
+        "unlock_fair releases",
+    ),
+    (
+        Step::By(Act::Prints("RwLock { data: 5 }")),
+        "Debug and Display of an upgradable guard, and Debug of a lock that is read",
+    ),
+];
+
+/// Of a lock of two readers: an upgradable guard counts among them.
+const COUNTS_AMONG_READERS: [(Step, &str); 4] = [
+    (
+        Step::Beside(Holder::UpgradableAndReader, Seen::Full, false),
+        "no third hold of two",
+    ),
+    (
+        Step::Beside(Holder::Reader, Seen::Read, true),
+        "one reader leaves room for an upgradable guard",
+    ),
+    (
+        Step::Beside(Holder::TwoReaders, Seen::Full, false),
+        "two readers of two leave none",
+    ),
+    (
+        Step::Beside(Holder::Nobody, Seen::Free, true),
+        "the last end releases",
+    ),
+];
 
 /// A lock that can be looked at, and may let in an upgradable reader.
 pub(crate) trait LookUpgradably: Look {
@@ -116,105 +185,103 @@ where
     }
 }
 
-/// Goes on where the lock answers beside each holder as it must.
-fn shows_each<R: RawRwLockUpgrade>(
+/// Whether an upgradable guard of 5 is let go for a while and upgradable again, and names its lock. It ends fairly.
+fn lets_go<
+    W: Lender<Part = u64> + Drop,
+    H: FairHold + RwLockHold + Access<Inner = W>,
+    L: LookUpgradably,
+>(upgradable: Guard<W, H>, lock: &L, held: Seen, party: &mut H::Party) -> bool
+where
+    H::Lock: Look,
+    <H::Lock as Look>::Runtime: Wait,
+    H::Runtime: Wait,
+    L::Runtime: Wait,
+{
+    let mut upgradable = upgradable;
+    let let_go = unlocks_for_a_while(&mut upgradable, party, lock, held).is_ok();
+    let still = is_upgradable(lock);
+    let of_it = Guard::rwlock(&upgradable).look() == held;
+    Guard::unlock_fair(upgradable);
+    let_go & still & of_it
+}
+
+/// Whether that comes of what is done by an upgradable guard.
+fn does<
+    W: Lender<Part = u64> + Drop,
+    H: FairHold + RwLockHold + Access<Inner = W>,
+    L: LookUpgradably + Debug,
+    A: Allocator + Copy,
+>(upgradable: Guard<W, H>, act: Act, lock: &L, alloc: A, party: &mut H::Party) -> bool
+where
+    H::Lock: Look,
+    <H::Lock as Look>::Runtime: Wait,
+    H::Runtime: Wait,
+    L::Runtime: Wait,
+{
+    match act {
+        Act::LetsGo(held) => lets_go(upgradable, lock, held, party),
+        act => does_by_reader(upgradable, act, lock, alloc),
+    }
+}
+
+/// Whether the step is as it must be.
+fn holds<R: RawRwLockUpgradeFair, A: Allocator + Copy>(
     lock: &RwLock<R, u64>,
+    step: Step,
+    alloc: A,
     party: &mut R::Party,
-    steps: &[(Holder, Seen, bool, &'static str)],
+) -> bool
+where
+    R::Runtime: Wait,
+{
+    match step {
+        Step::Beside(holder, seen, admitted) => beside(lock, holder, party) == (seen, admitted),
+        Step::By(act) => does(lock.upgradable_read(party), act, lock, alloc, party),
+    }
+}
+
+/// Goes through the steps at a lock.
+fn goes<R: RawRwLockUpgradeFair, A: Allocator + Copy>(
+    lock: &RwLock<R, u64>,
+    steps: &[(Step, &'static str)],
+    alloc: A,
+    party: &mut R::Party,
 ) -> Result<(), Wrong>
 where
     R::Runtime: Wait,
 {
-    for (holder, seen, upgradable, what) in steps {
-        let (shown, admitted) = beside(lock, *holder, party);
-        expect(shown == *seen && admitted == *upgradable, *what)?;
+    for (step, what) in steps {
+        expect(holds(lock, *step, alloc, party), *what)?;
     }
     Ok(())
 }
 
-/// Beside an upgradable guard there are readers, and neither a writer nor another upgradable guard.
-pub fn admits_one<R: RawRwLockUpgrade + MakeLock<S> + Drop, S>(
+/// Goes through the steps at a lock of 5 and of so many readers.
+fn on_a_lock<R: RawRwLockUpgradeFair + MakeLock<S> + Drop, A: Allocator + Copy, S>(
+    alloc: A,
     source: S,
+    readers: u64,
+    steps: &[(Step, &'static str)],
     party: &mut R::Party,
 ) -> Result<(), Wrong>
 where
     R::Runtime: Wait,
 {
-    let lock = RwLock::<R, u64>::new(source, 4, 5)?;
-    shows_each(
-        &lock,
-        party,
-        &[
-            (Holder::Reader, Seen::Read, true, "beside a reader"),
-            (
-                Holder::Upgradable,
-                Seen::Read,
-                false,
-                "beside an upgradable guard",
-            ),
-            (
-                Holder::Nobody,
-                Seen::Free,
-                true,
-                "a dropped upgradable guard releases",
-            ),
-            (Holder::Writer, Seen::Alone, false, "beside a writer"),
-            (Holder::Nobody, Seen::Free, true, "each of them released"),
-        ],
-    )?;
-    let read = lends(&lock.upgradable_read(party), 5);
-    expect(read, "an upgradable guard reads")
+    let lock = RwLock::<R, u64>::new(source, readers, 5)?;
+    goes(&lock, steps, alloc, party)
 }
 
-/// An upgradable guard counts among the readers.
-pub fn counts_among_readers<R: RawRwLockUpgrade + MakeLock<S> + Drop, S>(
-    source: S,
+/// Goes through upgrades at a lock of 5, by a try and by a wait.
+fn upgrades_at<R: RawRwLockUpgrade>(
+    lock: &RwLock<R, u64>,
     party: &mut R::Party,
 ) -> Result<(), Wrong>
 where
     R::Runtime: Wait,
 {
-    let lock = RwLock::<R, u64>::new(source, 2, 5)?;
-    shows_each(
-        &lock,
-        party,
-        &[
-            (
-                Holder::UpgradableAndReader,
-                Seen::Full,
-                false,
-                "no third hold of two",
-            ),
-            (
-                Holder::Reader,
-                Seen::Read,
-                true,
-                "one reader leaves room for an upgradable guard",
-            ),
-            (
-                Holder::TwoReaders,
-                Seen::Full,
-                false,
-                "two readers of two leave none",
-            ),
-            (Holder::Nobody, Seen::Free, true, "the last end releases"),
-        ],
-    )
-}
-
-/// An upgrade waits for readers to go, and a try of one gives the same guard back, still held.
-pub fn upgrades<R: RawRwLockUpgrade + MakeLock<S> + Drop, S>(
-    source: S,
-    party: &mut R::Party,
-) -> Result<(), Wrong>
-where
-    R::Runtime: Wait,
-{
-    let lock = RwLock::<R, u64>::new(source, 4, 5)?;
-    let upgradable = lock.upgradable_read(party);
-    let tried = tries_to_upgrade(upgradable, lock.read(party), &lock);
-    let freed = is_free(&lock);
-    let waited = waits_to_upgrade(lock.upgradable_read(party), &lock, party);
+    let tried = tries_to_upgrade(lock.upgradable_read(party), lock.read(party), lock);
+    let freed = is_free(lock);
+    let waited = waits_to_upgrade(lock.upgradable_read(party), lock, party);
     expect_all(&[
         (
             tried,
@@ -271,17 +338,16 @@ where
     is_alone(lock) & lends(&writer, 6)
 }
 
-/// The value is written under the upgraded guard for a closure's time, and not beside a reader.
-pub fn writes_upgraded<R: RawRwLockUpgradeDowngrade + MakeLock<S> + Drop, S>(
-    source: S,
+/// Goes through what is written under an upgraded guard at a lock of 4.
+fn writes_upgraded_at<R: RawRwLockUpgradeDowngrade>(
+    lock: &RwLock<R, u64>,
     party: &mut R::Party,
 ) -> Result<(), Wrong>
 where
     R::Runtime: Wait,
 {
-    let lock = RwLock::<R, u64>::new(source, 4, 4)?;
-    let (alone, upgradable) = writes_alone(lock.upgradable_read(party), &lock, party);
-    let tried = writes_beside_nobody(upgradable, lock.read(party), &lock);
+    let (alone, upgradable) = writes_alone(lock.upgradable_read(party), lock, party);
+    let tried = writes_beside_nobody(upgradable, lock.read(party), lock);
     expect_all(&[
         (
             alone,
@@ -292,6 +358,18 @@ where
             "try_with_upgraded wrote beside nobody alone, and is upgradable afterwards",
         ),
     ])
+}
+
+/// The value is written under the upgraded guard for a closure's time, and not beside a reader.
+pub fn writes_upgraded<R: RawRwLockUpgradeDowngrade + MakeLock<S> + Drop, S>(
+    source: S,
+    party: &mut R::Party,
+) -> Result<(), Wrong>
+where
+    R::Runtime: Wait,
+{
+    let lock = RwLock::<R, u64>::new(source, 4, 4)?;
+    writes_upgraded_at(&lock, party)
 }
 
 /// Whether 5 is written under the upgraded guard, which is alone for the closure's time and not afterwards, and the
@@ -341,8 +419,29 @@ where
     refused & uncalled & tried & lends(&upgradable, 7) & is_upgradable(lock)
 }
 
-/// A writer becomes upgradable, and an upgradable guard a reader, and each keeps the value.
-pub fn downgrades<R: RawRwLockUpgradeDowngrade + MakeLock<S> + Drop, S>(
+/// Goes through downgrades at a lock.
+fn downgrades_at<R: RawRwLockUpgradeDowngrade>(
+    lock: &RwLock<R, u64>,
+    party: &mut R::Party,
+) -> Result<(), Wrong>
+where
+    R::Runtime: Wait,
+{
+    let (wrote, upgradable) = becomes_upgradable(lock.write(party));
+    let became = becomes_a_reader(upgradable, lock);
+    expect_all(&[
+        (wrote, "a writer reads what it wrote"),
+        (
+            became,
+            "a guard that became upgradable and then a reader shows it and keeps the value",
+        ),
+        (is_free(lock), "a guard that became a reader releases"),
+    ])
+}
+
+/// An upgrade waits for readers to go, and a try of one gives the same guard back, still held. A writer becomes
+/// upgradable, and an upgradable guard a reader, and each keeps the value.
+pub fn turns<R: RawRwLockUpgradeDowngrade + MakeLock<S> + Drop, S>(
     source: S,
     party: &mut R::Party,
 ) -> Result<(), Wrong>
@@ -350,16 +449,10 @@ where
     R::Runtime: Wait,
 {
     let lock = RwLock::<R, u64>::new(source, 4, 5)?;
-    let (wrote, upgradable) = becomes_upgradable(lock.write(party));
-    let became = becomes_a_reader(upgradable, &lock);
-    expect_all(&[
-        (wrote, "a writer reads what it wrote"),
-        (
-            became,
-            "a guard that became upgradable and then a reader shows it and keeps the value",
-        ),
-        (is_free(&lock), "a guard that became a reader releases"),
-    ])
+    let upgraded = upgrades_at(&lock, party);
+    let downgraded = downgrades_at(&lock, party);
+    upgraded?;
+    downgraded
 }
 
 /// Whether a writer reads the 7 that it writes, and the upgradable guard that it becomes.
@@ -393,68 +486,6 @@ where
     kept & is_shared(lock) & lends(&reader, 7)
 }
 
-/// `unlocked` lets an upgradable guard go for the closure's time, and it is held again afterwards.
-pub fn unlocks_for_a_while<R: RawRwLockUpgradeFair + MakeLock<S> + Drop, S>(
-    source: S,
-    party: &mut R::Party,
-) -> Result<(), Wrong>
-where
-    R::Runtime: Wait,
-{
-    let lock = RwLock::<R, u64>::new(source, 4, 5)?;
-    let unlocked = lets_go(lock.upgradable_read(party), &lock, party);
-    expect_all(&[
-        (
-            unlocked,
-            "let go for a while, upgradable again, and of its lock",
-        ),
-        (is_free(&lock), "unlock_fair releases"),
-    ])
-}
-
-/// Whether an upgradable guard of 5 is let go for a while and upgradable again, and names its lock. It ends fairly.
-fn lets_go<
-    W: Lender<Part = u64> + Drop,
-    H: FairHold + RwLockHold + Access<Inner = W>,
-    L: LookUpgradably,
->(upgradable: Guard<W, H>, lock: &L, party: &mut H::Party) -> bool
-where
-    H::Lock: Look,
-    <H::Lock as Look>::Runtime: Wait,
-    H::Runtime: Wait,
-    L::Runtime: Wait,
-{
-    let mut upgradable = upgradable;
-    let let_go = lets_go_for_a_while(&mut upgradable, party, lock, Seen::Read).is_ok();
-    let still = is_upgradable(lock);
-    let of_it = is_read(Guard::rwlock(&upgradable));
-    Guard::unlock_fair(upgradable);
-    let_go & still & of_it
-}
-
-/// An upgradable guard prints its value, and so does the lock, which a reader may take beside it.
-pub fn prints<R: RawRwLockUpgrade + MakeLock<S> + Drop, A: Allocator + Copy, S>(
-    alloc: A,
-    source: S,
-    party: &mut R::Party,
-) -> Result<(), Wrong>
-where
-    R::Runtime: Wait,
-{
-    let lock = RwLock::<R, u64>::new(source, 4, 5)?;
-    let upgradable = lock.upgradable_read(party);
-    expect_all(&[
-        (
-            shows(alloc, &lock, "RwLock { data: 5 }"),
-            "Debug of a lock that is read",
-        ),
-        (
-            prints_its_value(alloc, &upgradable, "5 5"),
-            "Debug and Display of an upgradable guard",
-        ),
-    ])
-}
-
 /// Adds 1 to what an upgradable guard read, under the guard that it becomes.
 fn adds_one<W: Lender<Part = u64> + Drop, H: UpgradeHold>(
     upgradable: Guard<W, H>,
@@ -472,7 +503,7 @@ where
 }
 
 /// Adds 1 under an upgraded guard, a thousand times.
-fn adds<R: RawRwLockUpgrade + Drop>(lock: &RwLock<R, u64>, party: &mut R::Party)
+fn adds<R: RawRwLockUpgrade>(lock: &RwLock<R, u64>, party: &mut R::Party)
 where
     R::Runtime: Wait,
 {
@@ -495,4 +526,23 @@ where
     let lock = RwLock::<R, u64>::new(source, 4, 0)?;
     thread::join(rt, || adds(&lock, one), || adds(&lock, other));
     expect(lock.into_inner() == 2_000, "two threads add up to 2,000")
+}
+
+/// Each check here, one after the other: the first that finds something wrong says so.
+pub fn all<
+    R: RawRwLockUpgradeFair + RawRwLockUpgradeDowngrade + MakeLock<S> + Drop + Sync,
+    T: Threads + Sync,
+    A: Allocator + Copy,
+    S,
+>(rt: &T, alloc: A, source: S, one: &mut R::Party, other: &mut R::Party) -> Result<(), Wrong>
+where
+    S: Copy,
+    R::Party: Send,
+    R::Runtime: Wait,
+{
+    on_a_lock::<R, A, S>(alloc, source, 4, &ADMITS_ONE, one)?;
+    on_a_lock::<R, A, S>(alloc, source, 2, &COUNTS_AMONG_READERS, one)?;
+    turns::<R, S>(source, one)?;
+    writes_upgraded::<R, S>(source, one)?;
+    excludes::<R, T, S>(rt, source, one, other)
 }
