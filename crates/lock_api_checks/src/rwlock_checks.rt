@@ -6,7 +6,7 @@
 use lock_api::{Guard, RwLock};
 use lock_api_guards::{Access, DowngradeHold, FairHold, Hold, Lender, LenderMut, RwLockHold};
 use lock_api_mutex_checks::acts::{
-    Act, PairAct, does_by_reader, does_by_writer, parts_by_reader, parts_by_writer,
+    Act, PairAct, Text, does_by_reader, does_by_writer, parts_by_reader, parts_by_writer,
 };
 use lock_api_mutex_checks::guard_checks::{
     Pair, add_one_by, lends, prints_its_first, shows, unlocks_for_a_while, writes,
@@ -35,7 +35,7 @@ enum Step {
     /// Nobody holds it.
     IsFree,
     /// It prints this text.
-    Prints(&'static str),
+    Prints(Text),
     /// A guard is had so, and this is done by it.
     By(Mode, Act),
     /// Beside two readers, who both read 5, it shows itself so. One goes before the other, which leaves room.
@@ -78,13 +78,13 @@ const ADMITS_READERS_OR_A_WRITER: [(Step, &str); 17] = [
         "a reader let go for a while and held again, and of its lock",
     ),
     (Step::IsFree, "unlock_fair of a reader releases"),
-    (Step::Prints("RwLock { data: 5 }"), "Debug of a free lock"),
+    (Step::Prints(Text::Lock), "Debug of a free lock"),
     (
-        Step::By(Mode::Read, Act::Prints("RwLock { data: 5 }")),
+        Step::By(Mode::Read, Act::Prints(Text::Lock)),
         "Debug and Display of a read guard, and Debug of its lock",
     ),
     (
-        Step::By(Mode::Write, Act::Prints("RwLock { data: <locked> }")),
+        Step::By(Mode::Write, Act::Prints(Text::LockedLock)),
         "Debug and Display of a write guard, and Debug of a lock that is written",
     ),
     (
@@ -269,7 +269,7 @@ where
 {
     match step {
         Step::IsFree => is_free(lock),
-        Step::Prints(text) => shows(alloc, lock, text),
+        Step::Prints(text) => shows(alloc, lock, text.as_str()),
         Step::By(mode, act) => by_guard(lock, mode, act, alloc, party),
         Step::TwoReaders(seen) => beside_two(lock.read(party), lock.read(party), lock) == seen,
         Step::Downgrades => becomes_a_reader(lock.write(party), lock),

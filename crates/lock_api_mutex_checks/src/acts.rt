@@ -24,7 +24,32 @@ pub enum Act {
     /// It is let go for a while and held again, as it is to be seen, names its lock and ends fairly. The number is 5.
     LetsGo(Seen),
     /// It prints the number 5, and the lock prints this text beside it.
-    Prints(&'static str),
+    Prints(Text),
+}
+
+/// What a lock of 5 prints.
+#[derive(Clone, Copy)]
+pub enum Text {
+    /// A mutex whose value can be read.
+    Mutex,
+    /// A mutex that is locked.
+    LockedMutex,
+    /// A reader-writer lock whose value can be read.
+    Lock,
+    /// A reader-writer lock that is written.
+    LockedLock,
+}
+
+impl Text {
+    /// The text itself.
+    pub fn as_str(self) -> &'static str {
+        match self {
+            Text::Mutex => "Mutex { data: 5 }",
+            Text::LockedMutex => "Mutex { data: <locked> }",
+            Text::Lock => "RwLock { data: 5 }",
+            Text::LockedLock => "RwLock { data: <locked> }",
+        }
+    }
 }
 
 /// Whether that comes of what is done by a guard that may only read.
@@ -41,7 +66,7 @@ where
     match act {
         Act::Stands(seen) => beside_guard(guard, lock) == seen,
         Act::Reads(value) => read_by(guard) == value,
-        Act::Prints(text) => prints_beside(alloc, guard, lock, text),
+        Act::Prints(text) => prints_beside(alloc, guard, lock, text.as_str()),
         _ => false,
     }
 }

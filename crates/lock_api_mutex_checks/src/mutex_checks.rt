@@ -3,7 +3,7 @@
 //! A check lends its mutex to the function that goes through its table. What is done with a guard stands in functions
 //! over any hold: at a named mutex each such call would cost a proof ten times as long.
 
-use crate::acts::{Act, PairAct, does_by_writer, parts_by_writer};
+use crate::acts::{Act, PairAct, Text, does_by_writer, parts_by_writer};
 use crate::arc_guard_checks::{is_refused, unlocks_an_arc_for_a_while, writes_by_closures};
 use crate::guard_checks::{
     Pair, add_one_by, is_had, shows, unlocks_for_a_while as lets_go_for_a_while,
@@ -33,7 +33,7 @@ enum Step {
     /// It says that nobody holds it.
     IsUnlocked,
     /// It prints this text.
-    Prints(&'static str),
+    Prints(Text),
     /// It is locked, and this is done by the guard.
     By(Act),
 }
@@ -50,9 +50,9 @@ const ADMITS_ONE: [(Step, &str); 8] = [
         "let go for a while and held again, and of its mutex",
     ),
     (Step::IsFree, "unlock_fair releases"),
-    (Step::Prints("Mutex { data: 5 }"), "Debug of a free mutex"),
+    (Step::Prints(Text::Mutex), "Debug of a free mutex"),
     (
-        Step::By(Act::Prints("Mutex { data: <locked> }")),
+        Step::By(Act::Prints(Text::LockedMutex)),
         "Debug and Display of a guard, and Debug of its mutex",
     ),
 ];
@@ -144,7 +144,7 @@ where
     match step {
         Step::IsFree => is_free(mutex),
         Step::IsUnlocked => !mutex.is_locked(),
-        Step::Prints(text) => shows(alloc, mutex, text),
+        Step::Prints(text) => shows(alloc, mutex, text.as_str()),
         Step::By(act) => does(mutex.lock(party), act, mutex, alloc, party),
     }
 }

@@ -3,7 +3,7 @@
 //! A check lends its lock to the function that goes through its table. What is done with a guard stands in functions
 //! over any hold: at a named lock each such call would cost a proof ten times as long.
 
-use crate::acts::Act;
+use crate::acts::{Act, Text};
 use crate::guard_checks::{lends, unlocks_for_a_while, writes};
 use crate::raw_checks::TURNS;
 use crate::{Look, Seen, Wrong, expect, expect_all, is_alone, is_free, is_read};
@@ -74,7 +74,7 @@ const ADMITS_ONE: [(Step, &str); 9] = [
         "unlock_fair releases",
     ),
     (
-        Step::By(Act::Prints("RwLock { data: 5 }")),
+        Step::By(Act::Prints(Text::Lock)),
         "Debug and Display of an upgradable guard, and Debug of a lock that is read",
     ),
 ];
