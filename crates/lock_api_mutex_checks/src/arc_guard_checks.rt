@@ -61,9 +61,6 @@ where
     let let_go_fairly = ArcGuard::unlocked_fair(guard, party, || is_free(lock));
     let again_fairly = lock.look();
     ArcGuard::bump(guard, party);
-    step(1, let_go)?;
-    step(2, again == held)?;
-    step(3, let_go_fairly)?;
-    step(4, again_fairly == held)?;
-    step(5, lock.look() == held)
+    let are_held = (again == held) & (again_fairly == held) & (lock.look() == held);
+    step(1, let_go & let_go_fairly & are_held)
 }

@@ -122,14 +122,14 @@ where
     ensures { W.part guard.inner ≡ (Some 7, 2) → IsOk result }
 {
     let first = Guard::map(guard, First);
-    step(1, *first == Some(7))?;
+    let had = *first == Some(7);
     match Mapped::try_map(first, Inside) {
         Ok(inside) => {
-            step(2, *inside == 7)?;
+            let had_inside = *inside == 7;
             Mapped::unlock_fair(inside);
-            Ok(())
+            step(1, had & had_inside)
         }
-        Err(_) => step(3, false),
+        Err(_) => step(2, false),
     }
 }
 
@@ -142,16 +142,16 @@ where
     ensures { W.part guard.inner ≡ (Some 1, 2) → IsOk result }
 {
     let mut first = Guard::map(guard, First);
-    step(1, *first == Some(1))?;
+    let had = *first == Some(1);
     *first = Some(9);
     match Mapped::try_map(first, Inside) {
         Ok(mut inside) => {
-            step(2, *inside == 9)?;
+            let had_inside = *inside == 9;
             *inside = 7;
             Mapped::unlock_fair(inside);
-            Ok(())
+            step(1, had & had_inside)
         }
-        Err(_) => step(3, false),
+        Err(_) => step(2, false),
     }
 }
 
@@ -165,9 +165,9 @@ where
 {
     match Guard::try_map(guard, Then::new(First, Inside)) {
         Ok(mut part) => {
-            step(4, *part == 7)?;
+            let had = *part == 7;
             *part = 6;
-            Ok(())
+            step(4, had)
         }
         Err(_) => step(5, false),
     }
@@ -189,21 +189,19 @@ where
         Ok(_) => return step(6, false),
         Err(guard) => guard,
     };
-    step(7, held())?;
-    let first = match Guard::try_map_or_err(guard, Then::new(First, Inside), 'e') {
-        Ok(_) => return step(8, false),
+    let held_without = held();
+    let (first, kept) = match Guard::try_map_or_err(guard, Then::new(First, Inside), 'e') {
+        Ok(_) => return step(7, false),
         Err((guard, error)) => {
-            step(9, error == 'e')?;
-            step(10, *guard == (None, 2))?;
-            Guard::map(guard, First)
+            let kept = (error == 'e') & (*guard == (None, 2));
+            (Guard::map(guard, First), kept)
         }
     };
     match Mapped::try_map_or_err(first, Inside, 'f') {
-        Ok(_) => step(11, false),
+        Ok(_) => step(8, false),
         Err((first, error)) => {
-            step(12, error == 'f')?;
-            step(13, held())?;
-            step(14, *first == None)
+            let kept_field = (error == 'f') & held() & (*first == None);
+            step(9, held_without & kept & kept_field)
         }
     }
 }
@@ -239,12 +237,8 @@ where
     let again_fairly = lock.look();
     Guard::bump(guard, party);
     let bumped = lock.look();
-    step(1, let_go)?;
-    step(2, again == held)?;
-    step(3, let_go_fairly)?;
-    step(4, again_fairly == held)?;
-    step(5, bumped == held)?;
-    step(6, lends(guard, 5))
+    let are_held = (again == held) & (again_fairly == held) & (bumped == held);
+    step(1, let_go & let_go_fairly & are_held & lends(guard, 5))
 }
 
 /// Whether Debug prints this text.
