@@ -72,6 +72,25 @@ where
     owns_at(alloc, &lock, party)
 }
 
+/// Whether a write guard is alone, writes 6 and reads it, and gives its Arc back.
+fn gives_its_arc_back<
+    H: WriteHold + RwLockHold + ArcHold<Apart = Arc<L, A>>,
+    L: Look + Drop,
+    A: Allocator,
+>(writer: ArcGuard<H>) -> bool
+where
+    H::Lock: HasValueMut<Value = u64>,
+    <H::Lock as HasValue>::Waiting: Wait,
+    H::Runtime: Wait,
+    L::Runtime: Wait,
+{
+    let mut writer = writer;
+    let alone = is_alone(&**ArcGuard::rwlock(&writer));
+    let wrote = writes_by_closures(&mut writer, 6);
+    let arc = ArcGuard::into_arc(writer);
+    alone & wrote & is_free(&*arc)
+}
+
 /// Whether a write guard is alone, writes 6 by a closure and reads it by the next one, and gives its Arc back.
 fn writes_and_gives_its_arc_back<
     H: WriteHold + RwLockHold + ArcHold<Apart = Arc<L, A>>,
@@ -84,13 +103,26 @@ where
     H::Runtime: Wait,
     L::Runtime: Wait,
 {
-    let Ok(mut writer) = writer else {
-        return false;
-    };
-    let alone = is_alone(&**ArcGuard::rwlock(&writer));
-    let wrote = writes_by_closures(&mut writer, 6);
-    let arc = ArcGuard::into_arc(writer);
-    alone & wrote & is_free(&*arc)
+    match writer {
+        Ok(writer) => gives_its_arc_back(writer),
+        _ => false,
+    }
+}
+
+/// Whether a read guard of 6 lets others read, lends it to a closure, and prints it.
+fn prints_what_it_reads<H: RwLockHold, L: Look, A: Allocator>(
+    alloc: A,
+    reader: ArcGuard<H>,
+    lock: &L,
+) -> bool
+where
+    H::Lock: HasValue<Value = u64>,
+    <H::Lock as HasValue>::Waiting: Wait,
+    H::Runtime: Wait,
+    L::Runtime: Wait,
+{
+    let lent = is_read(lock) & lends_to_closures(&reader, 6);
+    lent & shows_both(alloc, &reader, "6 6")
 }
 
 /// Whether a read guard of 6 lets others read, lends it to a closure, and prints it.
@@ -105,11 +137,10 @@ where
     H::Runtime: Wait,
     L::Runtime: Wait,
 {
-    let Ok(reader) = reader else {
-        return false;
-    };
-    let lent = is_read(lock) & lends_to_closures(&reader, 6);
-    lent & shows_both(alloc, &reader, "6 6")
+    match reader {
+        Ok(reader) => prints_what_it_reads(alloc, reader, lock),
+        _ => false,
+    }
 }
 
 /// Goes through the times for which Arc guards are let go.
@@ -149,6 +180,22 @@ where
 }
 
 /// Whether a write guard is let go for a while and held again, and gives its Arc back by a fair end.
+fn lets_a_writer_go<H: FairHold + ArcHold<Apart = Arc<L, A>>, L: Look + Drop, A: Allocator + Copy>(
+    writer: ArcGuard<H>,
+    lock: &L,
+    party: &mut H::Party,
+) -> bool
+where
+    H::Runtime: Wait,
+    L::Runtime: Wait,
+{
+    let mut writer = writer;
+    let let_go = unlocks_an_arc_for_a_while(&mut writer, party, lock, Seen::Alone).is_ok();
+    let arc = ArcGuard::into_arc_fair(writer);
+    let_go & is_free(&*arc)
+}
+
+/// Whether a write guard is let go for a while and held again, and gives its Arc back by a fair end.
 fn unlocks_a_writer<H: FairHold + ArcHold<Apart = Arc<L, A>>, L: Look + Drop, A: Allocator + Copy>(
     writer: Result<ArcGuard<H>, NoMemory>,
     lock: &L,
@@ -158,12 +205,26 @@ where
     H::Runtime: Wait,
     L::Runtime: Wait,
 {
-    let Ok(mut writer) = writer else {
-        return false;
-    };
-    let let_go = unlocks_an_arc_for_a_while(&mut writer, party, lock, Seen::Alone).is_ok();
-    let arc = ArcGuard::into_arc_fair(writer);
-    let_go & is_free(&*arc)
+    match writer {
+        Ok(writer) => lets_a_writer_go(writer, lock, party),
+        _ => false,
+    }
+}
+
+/// Whether a read guard is let go for a while and held again. It ends fairly.
+fn lets_a_reader_go<H: FairHold, L: Look>(
+    reader: ArcGuard<H>,
+    lock: &L,
+    party: &mut H::Party,
+) -> bool
+where
+    H::Runtime: Wait,
+    L::Runtime: Wait,
+{
+    let mut reader = reader;
+    let let_go = unlocks_an_arc_for_a_while(&mut reader, party, lock, Seen::Read).is_ok();
+    ArcGuard::unlock_fair(reader);
+    let_go
 }
 
 /// Whether a read guard of a try is let go for a while and held again. It ends fairly.
@@ -176,12 +237,10 @@ where
     H::Runtime: Wait,
     L::Runtime: Wait,
 {
-    let Ok(Some(mut reader)) = tried else {
-        return false;
-    };
-    let let_go = unlocks_an_arc_for_a_while(&mut reader, party, lock, Seen::Read).is_ok();
-    ArcGuard::unlock_fair(reader);
-    let_go
+    match tried {
+        Ok(Some(reader)) => lets_a_reader_go(reader, lock, party),
+        _ => false,
+    }
 }
 
 /// An Arc write guard that is downgraded reads what it wrote, and lets other readers in.
@@ -203,6 +262,21 @@ where
     ])
 }
 
+/// Whether a write guard writes 7, and becomes a reader of it that lets others read.
+fn turns_into_a_reader<H: WriteHold + DowngradeHold, L: Look>(writer: ArcGuard<H>, lock: &L) -> bool
+where
+    H::Lock: HasValueMut<Value = u64>,
+    <H::Lock as HasValue>::Waiting: Wait,
+    H::Runtime: Wait,
+    <H::Down as Hold>::Runtime: Wait,
+    L::Runtime: Wait,
+{
+    let mut writer = writer;
+    let wrote = writes_by_closures(&mut writer, 7);
+    let reader = ArcGuard::downgrade(writer);
+    wrote & is_read(lock) & lends_to_closures(&reader, 7)
+}
+
 /// Whether a write guard of a try writes 7, and becomes a reader of it that lets others read.
 fn becomes_a_reader<H: WriteHold + DowngradeHold, L: Look>(
     tried: Result<Option<ArcGuard<H>>, NoMemory>,
@@ -215,12 +289,10 @@ where
     <H::Down as Hold>::Runtime: Wait,
     L::Runtime: Wait,
 {
-    let Ok(Some(mut writer)) = tried else {
-        return false;
-    };
-    let wrote = writes_by_closures(&mut writer, 7);
-    let reader = ArcGuard::downgrade(writer);
-    wrote & is_read(lock) & lends_to_closures(&reader, 7)
+    match tried {
+        Ok(Some(writer)) => turns_into_a_reader(writer, lock),
+        _ => false,
+    }
 }
 
 /// Each check here, one after the other: the first that finds something wrong says so.

@@ -332,6 +332,25 @@ where
     }
 }
 
+/// Whether a guard writes 6 and reads it, is let go for a while and held again, and gives its Arc back.
+fn gives_its_arc_back<
+    H: WriteHold + FairHold + ArcHold<Apart = Arc<L, A>>,
+    L: Look + Drop,
+    A: Allocator,
+>(guard: ArcGuard<H>, mutex: &L, party: &mut H::Party) -> bool
+where
+    H::Lock: HasValueMut<Value = u64>,
+    <H::Lock as HasValue>::Waiting: Wait,
+    H::Runtime: Wait,
+    L::Runtime: Wait,
+{
+    let mut guard = guard;
+    let wrote = writes_by_closures(&mut guard, 6);
+    let let_go = unlocks_an_arc_for_a_while(&mut guard, party, mutex, Seen::Alone).is_ok();
+    let arc = ArcGuard::into_arc(guard);
+    wrote & let_go & is_free(&*arc)
+}
+
 /// Whether a guard writes 6 by a closure and reads it by the next one, is let go for a while and held again, and gives
 /// its Arc of the mutex back.
 fn lends_and_gives_its_arc_back<
@@ -345,13 +364,10 @@ where
     H::Runtime: Wait,
     L::Runtime: Wait,
 {
-    let Ok(mut guard) = guard else {
-        return false;
-    };
-    let wrote = writes_by_closures(&mut guard, 6);
-    let let_go = unlocks_an_arc_for_a_while(&mut guard, party, mutex, Seen::Alone).is_ok();
-    let arc = ArcGuard::into_arc(guard);
-    wrote & let_go & is_free(&*arc)
+    match guard {
+        Ok(guard) => gives_its_arc_back(guard, mutex, party),
+        _ => false,
+    }
 }
 
 /// Whether a try gave a guard, which gives its Arc of the mutex back by a fair end.

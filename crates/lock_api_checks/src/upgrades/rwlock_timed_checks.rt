@@ -232,10 +232,28 @@ where
     H::Runtime: Wait,
     <H::Alone as Hold>::Runtime: Wait,
 {
-    let Err(upgradable) = Guard::try_upgrade_for(upgradable, short(), clock, party) else {
-        return None;
-    };
-    Guard::try_upgrade_until(upgradable, past, clock, party).err()
+    match Guard::try_upgrade_for(upgradable, short(), clock, party) {
+        Err(upgradable) => Guard::try_upgrade_until(upgradable, past, clock, party).err(),
+        Ok(_) => None,
+    }
+}
+
+/// Whether an upgradable guard of 5 holds and reads, and is upgraded by a wait beside nobody.
+fn upgrades_alone<
+    W: Lender<Part = u64> + Drop,
+    H: TimedUpgradeHold<Duration = Duration, Instant = Instant>,
+    L: Look,
+    C: Clock,
+>(upgradable: Guard<W, H>, lock: &L, clock: &C, party: &mut H::Party) -> bool
+where
+    H::Alone: Access,
+    H::Runtime: Wait,
+    <H::Alone as Hold>::Runtime: Wait,
+    L::Runtime: Wait,
+{
+    let held = is_read(lock) & lends(&upgradable, 5);
+    let upgraded = Guard::try_upgrade_for(upgradable, short(), clock, party);
+    held & upgraded.is_ok() & is_alone(lock)
 }
 
 /// Whether an upgradable guard of 5 comes back from its waits beside a reader, holds and reads, and is upgraded by a
@@ -263,12 +281,10 @@ where
 {
     let stayed = stays(upgradable, past, clock, party);
     drop(reader);
-    let Some(upgradable) = stayed else {
-        return false;
-    };
-    let held = is_read(lock) & lends(&upgradable, 5);
-    let upgraded = Guard::try_upgrade_for(upgradable, short(), clock, party);
-    held & upgraded.is_ok() & is_alone(lock)
+    match stayed {
+        Some(upgradable) => upgrades_alone(upgradable, lock, clock, party),
+        None => false,
+    }
 }
 
 /// Whether writing under an upgradable guard of 5 gives up beside a reader with no closure called, and writes beside
@@ -380,7 +396,7 @@ where
 
 /// The upgradable Arc guard, where each timed upgrade of it gives it back.
 fn stays_with_its_arc<H: TimedUpgradeHold<Duration = Duration, Instant = Instant>, C: Clock>(
-    upgradable: Result<ArcGuard<H>, NoMemory>,
+    upgradable: ArcGuard<H>,
     past: Instant,
     clock: &C,
     party: &mut H::Party,
@@ -389,13 +405,56 @@ where
     H::Runtime: Wait,
     <H::Alone as Hold>::Runtime: Wait,
 {
-    let Ok(upgradable) = upgradable else {
-        return None;
-    };
-    let Err(upgradable) = ArcGuard::try_upgrade_for(upgradable, short(), clock, party) else {
-        return None;
-    };
-    ArcGuard::try_upgrade_until(upgradable, past, clock, party).err()
+    match ArcGuard::try_upgrade_for(upgradable, short(), clock, party) {
+        Err(upgradable) => ArcGuard::try_upgrade_until(upgradable, past, clock, party).err(),
+        Ok(_) => None,
+    }
+}
+
+/// Whether an upgradable Arc guard holds, and is upgraded by a wait beside nobody.
+fn upgrades_an_arc_alone<
+    H: TimedUpgradeHold<Duration = Duration, Instant = Instant>,
+    L: Look,
+    C: Clock,
+>(upgradable: ArcGuard<H>, lock: &L, past: Instant, clock: &C, party: &mut H::Party) -> bool
+where
+    H::Runtime: Wait,
+    <H::Alone as Hold>::Runtime: Wait,
+    L::Runtime: Wait,
+{
+    let held = is_read(lock);
+    let upgraded = ArcGuard::try_upgrade_until(upgradable, past, clock, party);
+    held & upgraded.is_ok() & is_alone(lock)
+}
+
+/// Whether an upgradable Arc guard comes back from its waits beside a reader and holds, and is upgraded by a wait
+/// beside nobody.
+fn upgrades_by_waits<
+    H: TimedUpgradeHold<Duration = Duration, Instant = Instant>,
+    V: Drop,
+    S: Hold,
+    L: Look,
+    C: Clock,
+>(
+    upgradable: ArcGuard<H>,
+    reader: Guard<V, S>,
+    lock: &L,
+    past: Instant,
+    clock: &C,
+    party: &mut H::Party,
+) -> bool
+where
+    H::Runtime: Wait,
+    S::Runtime: Wait,
+    <H::Alone as Hold>::Runtime: Wait,
+    L::Runtime: Wait,
+{
+    let stayed = stays_with_its_arc(upgradable, past, clock, party);
+    drop(reader);
+    match stayed {
+        Some(upgradable) => upgrades_an_arc_alone(upgradable, lock, past, clock, party),
+        None => false,
+    }
 }
 
 /// Whether an upgradable Arc guard comes back from its waits beside a reader and holds, and is upgraded by a wait
@@ -420,14 +479,45 @@ where
     <H::Alone as Hold>::Runtime: Wait,
     L::Runtime: Wait,
 {
-    let stayed = stays_with_its_arc(upgradable, past, clock, party);
+    match upgradable {
+        Ok(upgradable) => upgrades_by_waits(upgradable, reader, lock, past, clock, party),
+        Err(_) => false,
+    }
+}
+
+/// Whether writing under an upgradable guard of 5 gives up beside a reader, and writes beside nobody.
+fn writes_by_waits<
+    H: RestoreHold + TimedUpgradeHold<Duration = Duration, Instant = Instant>,
+    V: Drop,
+    S: Hold,
+    C: Clock,
+>(
+    upgradable: ArcGuard<H>,
+    reader: Guard<V, S>,
+    past: Instant,
+    clock: &C,
+    party: &mut H::Party,
+) -> bool
+where
+    H::Lock: HasValueMut<Value = u64>,
+    <H::Lock as HasValue>::Waiting: Wait,
+    H::Runtime: Wait,
+    S::Runtime: Wait,
+    <H::Alone as Hold>::Runtime: Wait,
+{
+    let mut upgradable = upgradable;
+    let waited = ArcGuard::try_with_upgraded_for(
+        &mut upgradable,
+        short(),
+        clock,
+        party,
+        |value| *value = 6,
+    );
     drop(reader);
-    let Some(upgradable) = stayed else {
-        return false;
-    };
-    let held = is_read(lock);
-    let upgraded = ArcGuard::try_upgrade_until(upgradable, past, clock, party);
-    held & upgraded.is_ok() & is_alone(lock)
+    let alone = ArcGuard::try_with_upgraded_until(&mut upgradable, past, clock, party, |value| {
+        *value = value.wrapping_add(1);
+    });
+    waited.is_none() & alone.is_some() & lends_to_closures(&upgradable, 6)
 }
 
 /// Whether writing under an upgradable Arc guard of 5 gives up beside a reader with no closure called, and writes
@@ -451,21 +541,10 @@ where
     S::Runtime: Wait,
     <H::Alone as Hold>::Runtime: Wait,
 {
-    let Ok(mut upgradable) = upgradable else {
-        return false;
-    };
-    let waited = ArcGuard::try_with_upgraded_for(
-        &mut upgradable,
-        short(),
-        clock,
-        party,
-        |value| *value = 6,
-    );
-    drop(reader);
-    let alone = ArcGuard::try_with_upgraded_until(&mut upgradable, past, clock, party, |value| {
-        *value = value.wrapping_add(1);
-    });
-    waited.is_none() & alone.is_some() & lends_to_closures(&upgradable, 6)
+    match upgradable {
+        Ok(upgradable) => writes_by_waits(upgradable, reader, past, clock, party),
+        _ => false,
+    }
 }
 
 /// Each check here, one after the other: the first that finds something wrong says so.

@@ -56,6 +56,46 @@ where
     upgrades_at(&lock, party)
 }
 
+/// Whether an upgradable guard of 5 holds and reads beside a reader, and is upgraded by a try once that is gone.
+fn upgrades_beside_nobody<H: UpgradeHold, V: Drop, S: Hold, L: Look>(
+    upgradable: ArcGuard<H>,
+    reader: Guard<V, S>,
+    lock: &L,
+) -> bool
+where
+    H::Lock: HasValue<Value = u64>,
+    <H::Lock as HasValue>::Waiting: Wait,
+    H::Runtime: Wait,
+    <H::Alone as Hold>::Runtime: Wait,
+    S::Runtime: Wait,
+    L::Runtime: Wait,
+{
+    drop(reader);
+    let held = is_read(lock) & lends_to_closures(&upgradable, 5);
+    let upgraded = ArcGuard::try_upgrade(upgradable);
+    held & upgraded.is_ok() & is_alone(lock)
+}
+
+/// Whether an upgradable guard of 5 comes back from its try beside a reader, and is upgraded by one beside nobody.
+fn upgrades_by_tries<H: UpgradeHold, V: Drop, S: Hold, L: Look>(
+    upgradable: ArcGuard<H>,
+    reader: Guard<V, S>,
+    lock: &L,
+) -> bool
+where
+    H::Lock: HasValue<Value = u64>,
+    <H::Lock as HasValue>::Waiting: Wait,
+    H::Runtime: Wait,
+    <H::Alone as Hold>::Runtime: Wait,
+    S::Runtime: Wait,
+    L::Runtime: Wait,
+{
+    match ArcGuard::try_upgrade(upgradable) {
+        Err(upgradable) => upgrades_beside_nobody(upgradable, reader, lock),
+        Ok(_) => false,
+    }
+}
+
 /// Whether an upgradable guard of 5 comes back from its try beside a reader, holds and reads, and is upgraded by a try
 /// beside nobody.
 fn tries_to_upgrade<H: UpgradeHold, V: Drop, S: Hold, L: Look>(
@@ -71,16 +111,25 @@ where
     S::Runtime: Wait,
     L::Runtime: Wait,
 {
-    let Ok(upgradable) = upgradable else {
-        return false;
-    };
-    let Err(upgradable) = ArcGuard::try_upgrade(upgradable) else {
-        return false;
-    };
-    drop(reader);
-    let held = is_read(lock) & lends_to_closures(&upgradable, 5);
-    let upgraded = ArcGuard::try_upgrade(upgradable);
-    held & upgraded.is_ok() & is_alone(lock)
+    match upgradable {
+        Ok(upgradable) => upgrades_by_tries(upgradable, reader, lock),
+        _ => false,
+    }
+}
+
+/// Whether a guard is alone once it has waited to upgrade.
+fn upgrades_by_a_wait<H: UpgradeHold, L: Look>(
+    upgradable: ArcGuard<H>,
+    lock: &L,
+    party: &mut H::Party,
+) -> bool
+where
+    H::Runtime: Wait,
+    <H::Alone as Hold>::Runtime: Wait,
+    L::Runtime: Wait,
+{
+    let _writer = ArcGuard::upgrade(upgradable, party);
+    is_alone(lock)
 }
 
 /// Whether a guard that was tried for is had, and is alone once it has waited to upgrade.
@@ -94,11 +143,10 @@ where
     <H::Alone as Hold>::Runtime: Wait,
     L::Runtime: Wait,
 {
-    let Ok(Some(upgradable)) = tried else {
-        return false;
-    };
-    let _writer = ArcGuard::upgrade(upgradable, party);
-    is_alone(lock)
+    match tried {
+        Ok(Some(upgradable)) => upgrades_by_a_wait(upgradable, lock, party),
+        _ => false,
+    }
 }
 
 /// Goes through what is written under an upgraded Arc guard, at a lock of 4.
@@ -170,6 +218,31 @@ where
 }
 
 /// Whether a try beside a reader calls no closure, one beside nobody writes 7, and the guard becomes a reader of it.
+fn writes_and_turns<H: RestoreHold + DowngradeHold, V: Drop, S: Hold, L: LookUpgradably>(
+    upgradable: ArcGuard<H>,
+    reader: Guard<V, S>,
+    lock: &L,
+) -> bool
+where
+    H::Lock: HasValueMut<Value = u64>,
+    <H::Lock as HasValue>::Waiting: Wait,
+    H::Runtime: Wait,
+    <H::Alone as Hold>::Runtime: Wait,
+    <H::Down as Hold>::Runtime: Wait,
+    S::Runtime: Wait,
+    L::Runtime: Wait,
+{
+    let mut upgradable = upgradable;
+    let refused = ArcGuard::try_with_upgraded(&mut upgradable, |value| *value = 6).is_none();
+    let uncalled = lends_to_closures(&upgradable, 5);
+    drop(reader);
+    let tried = ArcGuard::try_with_upgraded(&mut upgradable, |value| *value = 7).is_some();
+    let reader = ArcGuard::downgrade(upgradable);
+    let shared = is_shared(lock);
+    refused & uncalled & tried & shared & lends_to_closures(&reader, 7)
+}
+
+/// Whether a try beside a reader calls no closure, one beside nobody writes 7, and the guard becomes a reader of it.
 fn writes_beside_nobody<H: RestoreHold + DowngradeHold, V: Drop, S: Hold, L: LookUpgradably>(
     upgradable: Result<ArcGuard<H>, NoMemory>,
     reader: Guard<V, S>,
@@ -184,16 +257,10 @@ where
     S::Runtime: Wait,
     L::Runtime: Wait,
 {
-    let Ok(mut upgradable) = upgradable else {
-        return false;
-    };
-    let refused = ArcGuard::try_with_upgraded(&mut upgradable, |value| *value = 6).is_none();
-    let uncalled = lends_to_closures(&upgradable, 5);
-    drop(reader);
-    let tried = ArcGuard::try_with_upgraded(&mut upgradable, |value| *value = 7).is_some();
-    let reader = ArcGuard::downgrade(upgradable);
-    let shared = is_shared(lock);
-    refused & uncalled & tried & shared & lends_to_closures(&reader, 7)
+    match upgradable {
+        Ok(upgradable) => writes_and_turns(upgradable, reader, lock),
+        _ => false,
+    }
 }
 
 /// Each check here, one after the other: the first that finds something wrong says so.

@@ -4,7 +4,7 @@
 //! over any hold: at a named lock each such call would cost a proof ten times as long.
 
 use crate::acts::{Act, Text};
-use crate::guard_checks::{lends, unlocks_for_a_while, writes};
+use crate::guard_checks::{is_written_by, lends, unlocks_for_a_while, writes};
 use crate::raw_checks::TURNS;
 use crate::{Look, Seen, Wrong, expect, expect_all, is_alone, is_free, is_read};
 use lock_api::{Guard, RwLock};
@@ -295,6 +295,40 @@ where
     ])
 }
 
+/// Whether a writer is alone, and writes 6.
+fn is_alone_and_writes<W: LenderMut<Part = u64> + Drop, H: Hold, L: Look>(
+    writer: Guard<W, H>,
+    lock: &L,
+) -> bool
+where
+    H::Runtime: Wait,
+    L::Runtime: Wait,
+{
+    is_alone(lock) & is_written_by(writer, 6)
+}
+
+/// Whether an upgradable guard of 5 holds and reads beside a reader, and is upgraded by a try once that is gone.
+fn upgrades_beside_nobody<W: Lender<Part = u64> + Drop, H: UpgradeHold, S: Hold, L: LookUpgradably>(
+    upgradable: Guard<W, H>,
+    reader: Guard<W, S>,
+    lock: &L,
+) -> bool
+where
+    H::Alone: Access,
+    <H::Alone as Access>::Inner: LenderMut<Part = u64>,
+    H::Runtime: Wait,
+    <H::Alone as Hold>::Runtime: Wait,
+    S::Runtime: Wait,
+    L::Runtime: Wait,
+{
+    drop(reader);
+    let held = is_upgradable(lock) & lends(&upgradable, 5);
+    match Guard::try_upgrade(upgradable) {
+        Ok(writer) => held & is_alone_and_writes(writer, lock),
+        Err(_) => false,
+    }
+}
+
 /// Whether an upgradable guard of 5 comes back from its try beside a reader, holds and reads, and is upgraded by a try
 /// beside nobody, which writes 6.
 fn tries_to_upgrade<W: Lender<Part = u64> + Drop, H: UpgradeHold, S: Hold, L: LookUpgradably>(
@@ -310,15 +344,10 @@ where
     S::Runtime: Wait,
     L::Runtime: Wait,
 {
-    let Err(upgradable) = Guard::try_upgrade(upgradable) else {
-        return false;
-    };
-    drop(reader);
-    let held = is_upgradable(lock) & lends(&upgradable, 5);
-    let Ok(mut writer) = Guard::try_upgrade(upgradable) else {
-        return false;
-    };
-    held & is_alone(lock) & writes(&mut writer, 6)
+    match Guard::try_upgrade(upgradable) {
+        Err(upgradable) => upgrades_beside_nobody(upgradable, reader, lock),
+        Ok(_) => false,
+    }
 }
 
 /// Whether an upgradable guard of 6 is alone and reads it once it has waited to upgrade.
