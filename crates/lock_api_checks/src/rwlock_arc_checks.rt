@@ -16,18 +16,23 @@ use lock_api_raw::{MakeLock, NoMemory, RawRwLock, RawRwLockDowngrade, RawRwLockF
 use std::alloc::Allocator;
 use std::sync::{Arc, Wait};
 
+/// A value in an Arc.
+fn in_arc<T: Drop, A: Allocator>(alloc: A, value: T) -> Result<Arc<T, A>, Wrong> {
+    match Arc::new(alloc, value) {
+        Ok(arc) => Ok(arc),
+        Err(_refused) => Err(Wrong {
+            what: "no memory for an Arc",
+        }),
+    }
+}
+
 /// A lock of four readers in an Arc.
 pub fn lock_in_arc<R: RawRwLock + MakeLock<S> + Drop, A: Allocator, S>(
     alloc: A,
     source: S,
     value: u64,
 ) -> Result<Arc<RwLock<R, u64>, A>, Wrong> {
-    match Arc::new(alloc, RwLock::new(source, 4, value)?) {
-        Ok(lock) => Ok(lock),
-        Err(_refused) => Err(Wrong {
-            what: "no memory for an Arc",
-        }),
-    }
+    in_arc(alloc, RwLock::new(source, 4, value)?)
 }
 
 /// Goes through what Arc guards lend, at a lock of 5.
@@ -72,6 +77,17 @@ where
     owns_at(alloc, &lock, party)
 }
 
+/// Whether the lock that an Arc guard names is held alone.
+fn names_its_lock<H: RwLockHold + ArcHold<Apart = Arc<L, A>>, L: Look + Drop, A: Allocator>(
+    guard: &ArcGuard<H>,
+) -> bool
+where
+    H::Runtime: Wait,
+    L::Runtime: Wait,
+{
+    is_alone(&**ArcGuard::rwlock(guard))
+}
+
 /// Whether a write guard is alone, writes 6 and reads it, and gives its Arc back.
 fn gives_its_arc_back<
     H: WriteHold + RwLockHold + ArcHold<Apart = Arc<L, A>>,
@@ -85,7 +101,7 @@ where
     L::Runtime: Wait,
 {
     let mut writer = writer;
-    let alone = is_alone(&**ArcGuard::rwlock(&writer));
+    let alone = names_its_lock(&writer);
     let wrote = writes_by_closures(&mut writer, 6);
     let arc = ArcGuard::into_arc(writer);
     alone & wrote & is_free(&*arc)

@@ -120,12 +120,23 @@ const KEEPS_ITS_VALUE: [(Step, &str); 3] = [
     ),
 ];
 
+/// Whether the lock that a guard names shows itself so.
+pub(crate) fn names_its_lock<W: Drop, H: RwLockHold>(guard: &Guard<W, H>, held: Seen) -> bool
+where
+    H::Lock: Look,
+    <H::Lock as Look>::Runtime: Wait,
+    H::Runtime: Wait,
+{
+    Guard::rwlock(guard).look() == held
+}
+
 /// Whether a guard of 5 is let go for a while and held again as it is to be seen, and names its lock. It ends fairly.
-pub(crate) fn lets_go<
-    W: Lender<Part = u64> + Drop,
-    H: FairHold + RwLockHold + Access<Inner = W>,
-    L: Look,
->(guard: Guard<W, H>, lock: &L, held: Seen, party: &mut H::Party) -> bool
+fn lets_go<W: Lender<Part = u64> + Drop, H: FairHold + RwLockHold + Access<Inner = W>, L: Look>(
+    guard: Guard<W, H>,
+    lock: &L,
+    held: Seen,
+    party: &mut H::Party,
+) -> bool
 where
     H::Lock: Look,
     <H::Lock as Look>::Runtime: Wait,
@@ -134,13 +145,13 @@ where
 {
     let mut guard = guard;
     let let_go = unlocks_for_a_while(&mut guard, party, lock, held).is_ok();
-    let of_it = Guard::rwlock(&guard).look() == held;
+    let of_it = names_its_lock(&guard, held);
     Guard::unlock_fair(guard);
     let_go & of_it
 }
 
 /// Whether that comes of what is done by a guard of a lock that may only read.
-pub(crate) fn reader_does<
+fn reader_does<
     W: Lender<Part = u64> + Drop,
     H: FairHold + RwLockHold + Access<Inner = W>,
     L: Look + Debug,
@@ -307,6 +318,12 @@ where
     goes(&lock, steps, alloc, party)
 }
 
+/// What is taken out of a lock once 4 was written without a guard.
+fn writes_and_takes_out<R: RawRwLock + Drop>(mut lock: RwLock<R, u64>) -> u64 {
+    *lock.get_mut() = 4;
+    lock.into_inner()
+}
+
 /// What was written is what is read next, and what is taken out.
 pub fn keeps_its_value<
     R: RawRwLockFair + RawRwLockDowngrade + MakeLock<S> + Drop,
@@ -316,10 +333,9 @@ pub fn keeps_its_value<
 where
     R::Runtime: Wait,
 {
-    let mut lock = RwLock::<R, u64>::default(source, 4)?;
+    let lock = RwLock::<R, u64>::default(source, 4)?;
     let kept = goes(&lock, &KEEPS_ITS_VALUE, alloc, party);
-    *lock.get_mut() = 4;
-    let taken = lock.into_inner();
+    let taken = writes_and_takes_out(lock);
     kept?;
     expect(taken == 4, "get_mut writes, into_inner takes out")
 }

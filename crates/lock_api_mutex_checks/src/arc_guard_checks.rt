@@ -3,9 +3,21 @@
 
 use crate::guard_checks::step;
 use crate::seen::{Look, Seen, is_free};
+use crate::wrong::Wrong;
 use lock_api::ArcGuard;
 use lock_api_guards::{FairHold, HasValue, HasValueMut, Hold, WriteHold};
-use std::sync::Wait;
+use std::alloc::Allocator;
+use std::sync::{Arc, Wait};
+
+/// A value in an Arc.
+pub(crate) fn in_arc<T: Drop, A: Allocator>(alloc: A, value: T) -> Result<Arc<T, A>, Wrong> {
+    match Arc::new(alloc, value) {
+        Ok(arc) => Ok(arc),
+        Err(_refused) => Err(Wrong {
+            what: "no memory for an Arc",
+        }),
+    }
+}
 
 /// Whether a try gave a guard, which is gone afterwards.
 pub fn is_given<H: Hold, E: Drop>(tried: Result<Option<ArcGuard<H>>, E>) -> bool

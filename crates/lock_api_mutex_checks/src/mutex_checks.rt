@@ -4,7 +4,7 @@
 //! over any hold: at a named mutex each such call would cost a proof ten times as long.
 
 use crate::acts::{Act, PairAct, Text, does_by_writer, parts_by_writer};
-use crate::arc_guard_checks::{is_refused, unlocks_an_arc_for_a_while, writes_by_closures};
+use crate::arc_guard_checks::{in_arc, is_refused, unlocks_an_arc_for_a_while, writes_by_closures};
 use crate::guard_checks::{
     Pair, add_one_by, is_had, shows, unlocks_for_a_while as lets_go_for_a_while,
 };
@@ -92,6 +92,16 @@ const NARROWS: [(Option<PairAct>, &str); 8] = [
     (None, "a guard that came back releases at its drop"),
 ];
 
+/// Whether the mutex that a guard names shows itself so.
+fn names_its_mutex<W: Drop, H: MutexHold>(guard: &Guard<W, H>, held: Seen) -> bool
+where
+    H::Lock: Look,
+    <H::Lock as Look>::Runtime: Wait,
+    H::Runtime: Wait,
+{
+    Guard::mutex(guard).look() == held
+}
+
 /// Whether a guard of 5 is let go for a while and held again, and names its mutex. It ends fairly.
 fn lets_go<W: Lender<Part = u64> + Drop, H: FairHold + MutexHold + Access<Inner = W>, L: Look>(
     guard: Guard<W, H>,
@@ -107,7 +117,7 @@ where
 {
     let mut guard = guard;
     let let_go = lets_go_for_a_while(&mut guard, party, mutex, held).is_ok();
-    let of_it = Guard::mutex(&guard).look() == held;
+    let of_it = names_its_mutex(&guard, held);
     Guard::unlock_fair(guard);
     let_go & of_it
 }
@@ -178,6 +188,12 @@ where
     goes(&mutex, &ADMITS_ONE, alloc, party)
 }
 
+/// What is taken out of a mutex once 4 was written without a guard.
+fn writes_and_takes_out<R: RawMutex + Drop>(mut mutex: Mutex<R, u64>) -> u64 {
+    *mutex.get_mut() = 4;
+    mutex.into_inner()
+}
+
 /// What was written is what is read next, and what is taken out.
 pub fn keeps_its_value<R: RawMutexFair + MakeLock<S> + Drop, A: Allocator + Copy, S>(
     alloc: A,
@@ -187,10 +203,9 @@ pub fn keeps_its_value<R: RawMutexFair + MakeLock<S> + Drop, A: Allocator + Copy
 where
     R::Runtime: Wait,
 {
-    let mut mutex = Mutex::<R, u64>::default(source)?;
+    let mutex = Mutex::<R, u64>::default(source)?;
     let kept = goes(&mutex, &KEEPS_ITS_VALUE, alloc, party);
-    *mutex.get_mut() = 4;
-    let taken = mutex.into_inner();
+    let taken = writes_and_takes_out(mutex);
     kept?;
     expect(taken == 4, "get_mut writes, into_inner takes out")
 }
@@ -326,10 +341,8 @@ pub fn owns_an_arc<R: RawMutexFair + MakeLock<S> + Drop, A: Allocator + Copy, S>
 where
     R::Runtime: Wait,
 {
-    match Arc::new(alloc, Mutex::<R, u64>::new(source, 5)?) {
-        Ok(mutex) => owns_at(&mutex, party),
-        Err(_refused) => expect(false, "memory for an Arc"),
-    }
+    let mutex = in_arc(alloc, Mutex::<R, u64>::new(source, 5)?)?;
+    owns_at(&mutex, party)
 }
 
 /// Whether a guard writes 6 and reads it, is let go for a while and held again, and gives its Arc back.

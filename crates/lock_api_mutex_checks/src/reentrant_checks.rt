@@ -3,7 +3,7 @@
 //! As with the mutex, what is done with a guard stands in functions over any hold.
 
 use crate::arc_guard_checks::{
-    is_given, is_refused, lends_to_closures, unlocks_an_arc_for_a_while,
+    in_arc, is_given, is_refused, lends_to_closures, unlocks_an_arc_for_a_while,
 };
 use crate::guard_checks::{
     Pair, prints_its_value, reads_step_by_step, shows, unlocks_for_a_while as lets_go_for_a_while,
@@ -29,12 +29,7 @@ fn mutex_in_arc<
 where
     R::Runtime: Wait,
 {
-    match Arc::new(alloc, ReentrantMutex::new(source, 2, 5)?) {
-        Ok(mutex) => Ok(mutex),
-        Err(_refused) => Err(Wrong {
-            what: "no memory for an Arc",
-        }),
-    }
+    in_arc(alloc, ReentrantMutex::new(source, 2, 5)?)
 }
 
 /// Whether a hold was refused because the count is full.
@@ -201,6 +196,37 @@ where
     lends_from(alloc, had, mutex, party)
 }
 
+/// Whether the mutex that a guard names is held.
+fn names_its_mutex<W: Drop, H: ReentrantHold>(guard: &Guard<W, H>) -> bool
+where
+    H::Lock: Look,
+    <H::Lock as Look>::Runtime: Wait,
+    H::Runtime: Wait,
+{
+    is_alone(Guard::remutex(guard))
+}
+
+/// Whether a borrowed guard of 5 is let go for a while, knows its mutex and prints its value. It ends fairly.
+fn lends_by<
+    W: Lender<Part = u64> + Drop,
+    H: FairHold + ReentrantHold + Access<Inner = W>,
+    L: Look,
+    A: Allocator,
+>(alloc: A, guard: Guard<W, H>, mutex: &L, party: &mut H::Party) -> bool
+where
+    H::Lock: Look,
+    <H::Lock as Look>::Runtime: Wait,
+    H::Runtime: Wait,
+    L::Runtime: Wait,
+{
+    let mut guard = guard;
+    let let_go = lets_go_for_a_while(&mut guard, party, mutex, Seen::Alone).is_ok();
+    let of_it = names_its_mutex(&guard);
+    let printed = prints_its_value(alloc, &guard, "5 5");
+    Guard::unlock_fair(guard);
+    let_go & of_it & printed
+}
+
 /// Whether a borrowed guard of 5 was had, is let go for a while, knows its mutex and prints its value. It ends fairly.
 fn lends_from<
     W: Lender<Part = u64> + Drop,
@@ -214,14 +240,10 @@ where
     H::Runtime: Wait,
     L::Runtime: Wait,
 {
-    let Ok(mut guard) = had else {
-        return false;
-    };
-    let let_go = lets_go_for_a_while(&mut guard, party, mutex, Seen::Alone).is_ok();
-    let of_it = is_alone(Guard::remutex(&guard));
-    let printed = prints_its_value(alloc, &guard, "5 5");
-    Guard::unlock_fair(guard);
-    let_go & of_it & printed
+    match had {
+        Ok(guard) => lends_by(alloc, guard, mutex, party),
+        Err(_) => false,
+    }
 }
 
 /// `unlocked` gives the hold up for the closure's time, and fair releases release.
@@ -245,6 +267,24 @@ where
     ])
 }
 
+/// The Arc guard, where it is let go for a while and held again.
+fn held_again<H: FairHold, L: Look>(
+    guard: ArcGuard<H>,
+    mutex: &L,
+    party: &mut H::Party,
+) -> Option<ArcGuard<H>>
+where
+    H::Runtime: Wait,
+    L::Runtime: Wait,
+{
+    let mut guard = guard;
+    if unlocks_an_arc_for_a_while(&mut guard, party, mutex, Seen::Alone).is_ok() {
+        Some(guard)
+    } else {
+        None
+    }
+}
+
 /// An Arc guard that was let go for a while and is held again.
 fn lets_go<H: FairHold, L: Look>(
     had: Result<ArcGuard<H>, ReentrantArcFault>,
@@ -255,13 +295,9 @@ where
     H::Runtime: Wait,
     L::Runtime: Wait,
 {
-    let Ok(mut guard) = had else {
-        return None;
-    };
-    if unlocks_an_arc_for_a_while(&mut guard, party, mutex, Seen::Alone).is_ok() {
-        Some(guard)
-    } else {
-        None
+    match had {
+        Ok(guard) => held_again(guard, mutex, party),
+        Err(_) => None,
     }
 }
 

@@ -6,6 +6,7 @@
 use crate::acts::{Act, Text};
 use crate::guard_checks::{is_written_by, lends, unlocks_for_a_while, writes};
 use crate::raw_checks::TURNS;
+use crate::rwlock_checks::names_its_lock;
 use crate::{Look, Seen, Wrong, expect, expect_all, is_alone, is_free, is_read};
 use lock_api::{Guard, RwLock};
 use lock_api_guards::{
@@ -200,7 +201,7 @@ where
     let mut upgradable = upgradable;
     let let_go = unlocks_for_a_while(&mut upgradable, party, lock, held).is_ok();
     let still = is_upgradable(lock);
-    let of_it = Guard::rwlock(&upgradable).look() == held;
+    let of_it = names_its_lock(&upgradable, held);
     Guard::unlock_fair(upgradable);
     let_go & still & of_it
 }
