@@ -32,4 +32,6 @@ mod steps;
 #[cfg(test)]
 mod timed_calls;
 #[cfg(test)]
+mod tries;
+#[cfg(test)]
 mod upgrade_calls;

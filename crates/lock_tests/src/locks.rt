@@ -2,11 +2,11 @@
 mod mapped;
 
 use crate::steps::all_right;
+use crate::tries::{is_given_up, is_reader_refused, is_refused};
 use lock_api::ReentrantArcFault;
-use lock_api_raw::{
-    GetThreadId, MakeLock as _, RawMutex, RawMutexTimed, RawRwLock, RawRwLockUpgrade,
-};
+use lock_api_raw::{GetThreadId, MakeLock as _, RawMutex, RawRwLock, RawRwLockUpgrade};
 use lock_api_spin::{PackedLock, PackedMutex, Parties};
+use std::sync::Wait;
 use std::test::Fail;
 use std::time::Duration;
 
@@ -15,37 +15,22 @@ fn a_held_mutex_admits_nobody(rt: HostRuntime) -> Result<(), Fail> {
     let raw = PackedMutex::new(rt, 0)?;
     let mut party = 1;
     let token = raw.lock(&mut party);
-    let second = raw.try_lock();
-    let refused = second.is_none();
-    if let Some(token) = second {
-        raw.unlock(token);
-    }
-    let third = raw.try_lock_for(Duration::from_millis(1), &rt, &mut party);
-    let given_up = third.is_none();
-    if let Some(token) = third {
-        raw.unlock(token);
-    }
+    let refused = is_refused(&raw);
+    let given_up = is_given_up(&raw, Duration::from_millis(1), &rt, &mut party);
     raw.unlock(token);
-    let fourth = raw.try_lock();
-    let admitted = fourth.is_some();
-    if let Some(token) = fourth {
-        raw.unlock(token);
-    }
+    let admitted = !is_refused(&raw);
     all_right(&rt, &[refused, given_up, admitted, !raw.is_locked()]);
     Ok(())
 }
 
-#[test]
-fn an_upgradable_hold_stands_beside_readers(rt: HostRuntime) -> Result<(), Fail> {
-    let raw = PackedLock::new(rt, 2)?;
-    let mut party = 1;
-    let upgradable = raw.lock_upgradable(&mut party);
-    let reader = raw.lock_shared(&mut party);
-    let full = raw.try_lock_shared();
-    let refused = full.is_none();
-    if let Some(token) = full {
-        raw.unlock_shared(token);
-    }
+/// Whether an upgradable hold and a reader fill a lock of two, and a try to upgrade gives the hold back.
+fn stands_beside_a_reader<R: RawRwLockUpgrade>(raw: &R, party: &mut R::Party) -> (bool, bool)
+where
+    R::Runtime: Wait,
+{
+    let upgradable = raw.lock_upgradable(party);
+    let reader = raw.lock_shared(party);
+    let refused = is_reader_refused(raw);
     let came_back = match raw.try_upgrade(upgradable) {
         Ok(token) => {
             raw.unlock_exclusive(token);
@@ -57,6 +42,13 @@ fn an_upgradable_hold_stands_beside_readers(rt: HostRuntime) -> Result<(), Fail>
         }
     };
     raw.unlock_shared(reader);
+    (refused, came_back)
+}
+
+#[test]
+fn an_upgradable_hold_stands_beside_readers(rt: HostRuntime) -> Result<(), Fail> {
+    let raw = PackedLock::new(rt, 2)?;
+    let (refused, came_back) = stands_beside_a_reader(&raw, &mut 1);
     all_right(&rt, &[refused, came_back, !raw.is_locked()]);
     Ok(())
 }

@@ -1,6 +1,7 @@
 //! The raw traits of mutexes and of condition variables.
 
 use crate::steps::all_right;
+use crate::tries::is_refused;
 use lock_api_raw::{
     GuardSend, MakeCondvar, MakeLock as _, RawCondvar, RawCondvarTimed, RawMutex, RawMutexFair,
     TableFull, WaitFault,
@@ -103,19 +104,11 @@ fn a_held_mutex_admits_nobody(rt: HostRuntime) -> Result<(), TableFull> {
     let mut party = 1;
     let token = lock.lock(&mut party);
     let locked = lock.is_locked();
-    let second = lock.try_lock();
-    let refused = second.is_none();
-    if let Some(other) = second {
-        lock.unlock(other);
-    }
+    let refused = is_refused(&lock);
     let token = lock.bump(token, &mut party);
     let (token, waited) = condvar.wait(&lock, token, &mut party);
     lock.unlock_fair(token);
-    let third = lock.try_lock();
-    let admitted = third.is_some();
-    if let Some(other) = third {
-        lock.unlock(other);
-    }
+    let admitted = !is_refused(&lock);
     all_right(&rt, &[locked, refused, waited.is_ok(), admitted]);
     Ok(())
 }

@@ -1,6 +1,7 @@
 //! The raw traits of reader-writer locks.
 
 use crate::steps::all_right;
+use crate::tries::is_reader_refused;
 use lock_api_raw::{
     MakeLock as _, RawRwLock, RawRwLockDowngrade, RawRwLockUpgradeDowngrade, RawRwLockUpgradeFair,
     TableFull,
@@ -30,11 +31,7 @@ fn one_hold_excludes_another(rt: HostRuntime) -> Result<(), TableFull> {
     let exclusive = up_and_down(&lock, &mut party);
     let released = !lock.is_locked();
     let token = lock.lock_exclusive(&mut party);
-    let second = lock.try_lock_shared();
-    let refused = second.is_none();
-    if let Some(other) = second {
-        lock.unlock_shared(other);
-    }
+    let refused = is_reader_refused(&lock);
     let token = lock.downgrade(token);
     lock.unlock_shared(token);
     all_right(&rt, &[exclusive, released, refused, !lock.is_locked()]);
