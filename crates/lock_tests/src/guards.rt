@@ -1,8 +1,10 @@
 //! Guards of the running locks, in the forms in which programs keep them.
 
 use crate::steps::all_right;
-use lock_api::{ArcMutexGuard, Guard, Mutex, NoMemory, RwLock, RwLockWriteGuard, TableFull};
-use lock_api_guards::{Hold, LenderMut};
+use lock_api::{
+    ArcGuard, ArcMutexGuard, Guard, Mutex, NoMemory, RwLock, RwLockWriteGuard, TableFull,
+};
+use lock_api_guards::{HasValue, HasValueMut, Hold, LenderMut, WriteHold};
 use lock_api_raw::{MakeLock, RawMutex as IsMutex, RawMutexTimed, RawRwLock as IsLock};
 use parking_lot_core::ParkingLot;
 use parking_lot_mutex::RawMutex;
@@ -214,14 +216,24 @@ fn guards_are_kept_and_handed_on(rt: HostRuntime) -> Result<(), Fail> {
     Ok(())
 }
 
+/// Adds 1 by a guard of any lock, which is gone afterwards.
+fn add_one<H: WriteHold>(mut guard: ArcGuard<H>)
+where
+    H::Lock: HasValueMut<Value = u64>,
+    <H::Lock as HasValue>::Waiting: Wait,
+    H::Runtime: Wait,
+{
+    guard.with_mut(|number| *number = number.wrapping_add(1));
+}
+
 /// Whether there is a guard, by which 1 is added.
 fn adds<R: IsMutex + Drop>(had: Result<Option<ArcMutexGuard<R, u64, Global>>, NoMemory>) -> bool
 where
     R::Runtime: Wait,
 {
     match had {
-        Ok(Some(mut guard)) => {
-            guard.with_mut(|number| *number = number.wrapping_add(1));
+        Ok(Some(guard)) => {
+            add_one(guard);
             true
         }
         _ => false,
