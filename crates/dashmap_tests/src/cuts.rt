@@ -1,103 +1,173 @@
 //! Which shards each piece visits, and in which order.
 
 use crate::noted::{NotedLock, Numbers};
+use crate::shared::Shared;
 use dashmap_map::{DashMap, NewFault};
-use dashmap_parallel::{NoThreadData, ParExtendFault, ParallelMap, par_extend_shared};
+use dashmap_parallel::{NoThreadData, ParExtendFault};
+use std::alloc::{AllocError, Global};
 use std::hash::RandomState;
+use std::random::RandomSource;
+use std::sync::Wait;
 use std::sync::atomic::AtomicU64;
 use std::test::Fail;
+use std::thread::Threads;
 
-/// A map of numbers whose locks note who took them.
-type Noted<R> = DashMap<u64, u64, RandomState, NotedLock<R>>;
-
-/// An empty map of eight shards, whose locks have the numbers 1 to 8.
-fn eight(rt: HostRuntime) -> Result<Noted<HostRuntime>, NewFault> {
+/// An empty map of eight shards, whose locks have the numbers 1 to 8 and note who took them.
+fn eight<R: RandomSource + Copy + Drop>(
+    rt: R,
+    alloc: Global,
+) -> Result<DashMap<u64, u64, RandomState, NotedLock<R>>, NewFault> {
     let next = AtomicU64::new(1);
-    DashMap::with_shard_amount(rt.alloc(), 8, Numbers { rt, next: &next })
+    DashMap::with_shard_amount(alloc, 8, Numbers { rt, next: &next })
 }
 
-/// The key `k` with twice itself, for each `k` below an amount.
-fn doubles(rt: HostRuntime, amount: u64) -> Result<Vec<(u64, u64)>, Fail> {
-    let mut pairs = Vec::new(rt.alloc());
-    for key in 0..amount {
+/// The key `k` with twice itself, for each `k` below 16.
+fn doubles(alloc: Global) -> Result<Vec<(u64, u64)>, AllocError> {
+    let mut pairs = Vec::new(alloc);
+    for key in 0..16u64 {
         pairs.push((key, key.wrapping_mul(2)))?;
     }
     Ok(pairs)
 }
 
+/// What is tried on an empty map of eight shards.
+#[derive(Clone, Copy)]
+enum Trial {
+    Cuts,
+    Pieces,
+    LaterPair,
+    Nobody,
+}
+
+/// Whether it is cut in pieces as equal as can be.
+fn is_cut<M: Shared<Party = u64>, T: Threads + Sync>(map: &M, rt: &T, alloc: Global) -> bool {
+    let mut parties = [0u64; 3];
+    let mut right = map.visited(rt, &mut parties) == Ok((0, 0)) && parties == [123, 456, 78];
+    let mut parties = [0u64; 3];
+    let answers = map.collected(rt, alloc, &mut parties);
+    right &= answers.is_some_and(|answers| answers.is_empty()) && parties == [123, 456, 78];
+    let mut parties = [0u64; 5];
+    right && map.written(rt, &mut parties) == Ok(()) && parties == [12, 34, 56, 7, 8]
+}
+
+/// The shards that each of three threads is to visit to put these pairs in, in their order.
+fn expected<M: Shared>(map: &M, pairs: &[(u64, u64)]) -> [u64; 3] {
+    let mut expected = [0u64; 3];
+    for (key, _) in pairs {
+        let shard = map.shard_of(*key);
+        let piece = if shard < 6 { shard / 3 } else { 2 };
+        let digits = expected[piece].wrapping_mul(10);
+        expected[piece] = digits.wrapping_add(shard as u64).wrapping_add(1);
+    }
+    expected
+}
+
+/// Whether the keys below sixteen were there, each with its double. They are gone then.
+fn had_doubles<M: Shared<Party = u64>>(map: &M) -> bool {
+    let mut right = true;
+    for key in 0..16 {
+        right &= map.take(key, &mut 0) == Some((key, key * 2));
+    }
+    right
+}
+
+/// Whether each pair is put in by the thread of its shard, each thread's in their order.
+fn is_dealt<M: Shared<Party = u64>, T: Threads + Sync>(
+    map: &M,
+    rt: &T,
+    alloc: Global,
+) -> Result<bool, AllocError> {
+    let pairs = doubles(alloc)?;
+    let expected = expected(map, &pairs);
+    let mut parties = [0u64; 3];
+    let right = map.take_all(rt, pairs, &mut parties) == Ok(());
+    Ok(right && parties == expected && had_doubles(map))
+}
+
+/// Whether the later of two pairs of one key stays.
+fn keeps_the_later<M: Shared<Party = u64>, T: Threads + Sync>(
+    map: &M,
+    rt: &T,
+    alloc: Global,
+) -> Result<bool, AllocError> {
+    let pairs = vec![in alloc; (1u64, 1u64), (1, 2)]?;
+    let right = map.take_all(rt, pairs, &mut [0u64; 3]) == Ok(());
+    Ok(match map.collected(rt, alloc, &mut [0u64; 3]) {
+        Some(pairs) => right && pairs.as_slice() == [(1, 2)].as_slice(),
+        None => false,
+    })
+}
+
+/// Whether each form is refused that nobody's data is handed to.
+fn refuses_nobody<M: Shared<Party = u64>, T: Threads + Sync>(
+    map: &M,
+    rt: &T,
+    alloc: Global,
+) -> Result<bool, AllocError> {
+    let mut right = map.visited(rt, &mut []) == Err(NoThreadData);
+    right &= map.written(rt, &mut []) == Err(NoThreadData);
+    right &= map.take_all(rt, doubles(alloc)?, &mut []) == Err(ParExtendFault::NoThreadData);
+    Ok(right && map.is_bare(&mut 0))
+}
+
+/// Tries something on a map.
+fn is_so<M: Shared<Party = u64>, T: Threads + Sync>(
+    map: &M,
+    rt: &T,
+    alloc: Global,
+    trial: Trial,
+) -> Result<bool, AllocError> {
+    match trial {
+        Trial::Cuts => Ok(is_cut(map, rt, alloc)),
+        Trial::Pieces => is_dealt(map, rt, alloc),
+        Trial::LaterPair => keeps_the_later(map, rt, alloc),
+        Trial::Nobody => refuses_nobody(map, rt, alloc),
+    }
+}
+
+/// Tries something on an empty map of eight shards.
+fn is_so_on_new<R: RandomSource + Wait + Threads + Copy + Sync + Drop>(
+    rt: R,
+    alloc: Global,
+    trial: Trial,
+) -> Result<bool, Fail> {
+    let map = eight(rt, alloc)?;
+    Ok(is_so(&map, &rt, alloc, trial)?)
+}
+
 #[test]
 fn eight_shards_are_cut_3_3_2(rt: HostRuntime) -> Result<(), Fail> {
-    let map = eight(rt)?;
-    let mut parties = [0u64; 3];
-    map.par_iter(&mut parties)?
-        .for_each(&rt, |_: &u64, _: &u64| {});
-    let mut right = parties == [123, 456, 78];
-    let mut parties = [0u64; 3];
-    let answers = map
-        .par_iter(&mut parties)?
-        .map_collect(&rt, rt.alloc(), |_: &u64, value: &u64| *value)?;
-    right &= parties == [123, 456, 78] && answers.is_empty();
-    let mut parties = [0u64; 5];
-    map.par_iter_mut_shared(&mut parties)?
-        .for_each(&rt, |_: &u64, _: &mut u64| {});
-    right &= parties == [12, 34, 56, 7, 8];
-    assert!(rt; right);
+    assert!(rt; is_so_on_new(rt, rt.alloc(), Trial::Cuts)?);
     Ok(())
 }
 
 #[test]
 fn each_pair_goes_to_its_piece_in_order(rt: HostRuntime) -> Result<(), Fail> {
-    let map = eight(rt)?;
-    let mut parties = [0u64; 3];
-    let mut expected = [0u64; 3];
-    let pairs = doubles(rt, 16)?;
-    for (key, _) in &pairs {
-        let shard = map.determine_map(key);
-        let piece = if shard < 6 { shard / 3 } else { 2 };
-        let digits = expected[piece].wrapping_mul(10);
-        expected[piece] = digits.wrapping_add(shard as u64).wrapping_add(1);
-    }
-    let mut right = par_extend_shared(&map, &rt, pairs, &mut parties) == Ok(());
-    right &= parties == expected;
-    for key in 0..16 {
-        right &= map.remove(&key, &mut 0) == Some((key, key * 2));
-    }
-    assert!(rt; right);
+    assert!(rt; is_so_on_new(rt, rt.alloc(), Trial::Pieces)?);
     Ok(())
 }
 
 #[test]
 fn a_later_pair_of_a_key_replaces_its_value(rt: HostRuntime) -> Result<(), Fail> {
-    let map = eight(rt)?;
-    let mut parties = [0u64; 3];
-    let mut pairs = Vec::new(rt.alloc());
-    pairs.push((1, 1))?;
-    pairs.push((1, 2))?;
-    let mut right = par_extend_shared(&map, &rt, pairs, &mut parties) == Ok(());
-    let values = map
-        .par_iter(&mut parties)?
-        .map_collect(&rt, rt.alloc(), |_: &u64, value: &u64| *value)?;
-    right &= values.as_slice() == [2].as_slice();
-    assert!(rt; right);
+    assert!(rt; is_so_on_new(rt, rt.alloc(), Trial::LaterPair)?);
     Ok(())
 }
 
 #[test]
 fn nobodys_data_is_refused(rt: HostRuntime) -> Result<(), Fail> {
-    let map = eight(rt)?;
-    let refused = map.par_iter(&mut []).err();
-    let mut right = refused == Some(NoThreadData) && NoThreadData.code() == 34;
-    right &= map.par_iter_mut_shared(&mut []).err() == Some(NoThreadData);
-    let refused = par_extend_shared(&map, &rt, doubles(rt, 16)?, &mut []);
-    right &= refused == Err(ParExtendFault::NoThreadData);
-    right &= map.is_empty(&mut 0);
+    assert!(rt; is_so_on_new(rt, rt.alloc(), Trial::Nobody)?);
+    Ok(())
+}
+
+#[test]
+fn faults_have_numbers_and_names(rt: HostRuntime) -> Result<(), Fail> {
+    let mut right = NoThreadData.code() == 34;
     right &= ParExtendFault::NoThreadData.code() == 34 && ParExtendFault::NoMemory.code() == 99;
     let said = format!(in rt.alloc();
         "{NoThreadData} {} {}",
         ParExtendFault::NoThreadData,
         ParExtendFault::NoMemory
     )?;
-    right &= said.as_str() == "NoThreadData NoThreadData NoMemory";
-    assert!(rt; right);
+    assert!(rt; right && said.as_str() == "NoThreadData NoThreadData NoMemory");
     Ok(())
 }

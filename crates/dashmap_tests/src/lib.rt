@@ -1,8 +1,6 @@
-//! Tests of what stands on the running map: the set, parallel forms, and maps that are taken apart, for what no clause
-//! says.
+//! Tests of what stands on the running map: parallel forms, and maps that are taken apart, for what no clause says.
 //!
-//! A call on a set is data ([`sets::Call`]), and so is what it answers: a case is a row of a table, which is run on a
-//! set over each kind of lock.
+//! What tries a map is generic in it, and knows it by a trait: a test alone names the map.
 #![tactic(auto)]
 
 #[cfg(test)]
@@ -26,14 +24,8 @@ mod parts;
 #[cfg(test)]
 mod pieces;
 #[cfg(test)]
-mod set_forms;
-#[cfg(test)]
-mod set_making;
-#[cfg(test)]
-mod set_walks;
-#[cfg(test)]
-mod sets;
-#[cfg(test)]
 mod shards;
+#[cfg(test)]
+mod shared;
 #[cfg(test)]
 mod views;

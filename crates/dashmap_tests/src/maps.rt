@@ -1,46 +1,346 @@
-//! The maps of the tests.
+//! Maps of numbers and their views, as the tests see them.
+//!
+//! What tries a map is generic in it, and knows it by a trait: a call there is one call of the map, which gives a plain
+//! answer. A test alone names the map.
 
 use dashmap_map::DashMap;
-use dashmap_plain::{Plain, ReadOnlyView};
-use dashmap_table::SpreadState;
+use dashmap_map::parts::shard_locks;
+use dashmap_plain::clones::{CloneMap, CloneView};
+use dashmap_plain::{Plain, ReadOnlyView, Unlocked, from_par_iter, par_extend};
+use dashmap_table::{MapFault, Shard, SpreadState};
+use dashmap_view::{OwningIter, parallel as pieces};
 use lock_api_spin::PackedLock;
+use std::alloc::{Allocator, Global};
+use std::hash::BuildHasher;
+use std::string::String;
 use std::sync::Wait;
-use std::test::Fail;
+use std::sync::atomic::{AtomicU64, Ordering};
+use std::thread::Threads;
 
-/// A map whose locks are words that are tried again and again.
-pub type Map<R> = DashMap<u64, u64, SpreadState, PackedLock<R>>;
+/// A map in some memory, whose locks are words that are tried again and again.
+pub type MapIn<R, A> = DashMap<u64, u64, SpreadState, PackedLock<R>, A>;
 
-/// The keys below `keys`, each with its double, on four shards.
-pub fn map_of(rt: HostRuntime, keys: u64) -> Result<Map<HostRuntime>, Fail> {
-    let mut map = DashMap::with_hasher_and_shard_amount(rt.alloc(), SpreadState, 4, rt)?;
+/// A map whose locks are words.
+pub type Map<R> = MapIn<R, Global>;
+
+/// A map of numbers.
+pub trait Numbers: Sized + Drop {
+    type Runtime: Copy;
+
+    type Memory: Copy;
+
+    /// An empty map of so many shards.
+    fn empty(rt: Self::Runtime, memory: Self::Memory, shards: usize) -> Result<Self, MapFault>;
+
+    /// A clone.
+    fn twin(&self, rt: Self::Runtime) -> Result<Self, MapFault>;
+
+    /// Puts a pair in by the map's owner, and answers the value that was there. None where there is no memory.
+    fn put(&mut self, key: u64, value: u64) -> Option<Option<u64>>;
+
+    fn value(&self, key: u64) -> Option<u64>;
+
+    fn count(&self) -> usize;
+}
+
+impl<R: Wait + Copy + Drop, A: Allocator + Copy + Drop> Numbers for MapIn<R, A> {
+    type Runtime = R;
+
+    type Memory = A;
+
+    fn empty(rt: R, memory: A, shards: usize) -> Result<MapIn<R, A>, MapFault> {
+        DashMap::with_hasher_and_shard_amount(memory, SpreadState, shards, rt)
+    }
+
+    fn twin(&self, rt: R) -> Result<MapIn<R, A>, MapFault> {
+        CloneMap::clone(self, rt, &mut 1)
+    }
+
+    fn put(&mut self, key: u64, value: u64) -> Option<Option<u64>> {
+        self.insert_mut(key, value).ok()
+    }
+
+    fn value(&self, key: u64) -> Option<u64> {
+        self.view(&key, |_, value| *value, &mut 1)
+    }
+
+    fn count(&self) -> usize {
+        self.len(&mut 1)
+    }
+}
+
+/// A map of numbers that is given up, or lent as a whole.
+pub trait Whole: Numbers<Memory = Global> {
+    /// What it becomes for any number of readers.
+    type View: View;
+
+    /// A map of the pairs of a list, on eight shards; by the parallel form, or by one thread.
+    fn listed(
+        rt: Self::Runtime,
+        alloc: Global,
+        pairs: Vec<(u64, u64)>,
+        in_pieces: bool,
+    ) -> Option<Self>;
+
+    /// How many pairs there is room for.
+    fn room(&self) -> usize;
+
+    fn is_bare(&self) -> bool;
+
+    fn has(&self, key: u64) -> bool;
+
+    /// Puts a key and its double into a shard that isn't that of its route.
+    fn misplace(&self, key: u64) -> bool;
+
+    /// Puts the pairs of a list in by the parallel form, and tells whether none was refused.
+    fn take(&mut self, pairs: Vec<(u64, u64)>) -> bool;
+
+    /// Writes into each value its key so many times by the parallel form, and answers how many there were.
+    fn write<T: Threads + Sync>(&mut self, rt: &T, times: u64) -> u64;
+
+    /// The same map, once each value was written twice by the parallel forms of a map without locks: then it is the
+    /// double of its key.
+    fn rewritten<T: Threads + Sync>(self, rt: &T) -> Self;
+
+    /// The view, or the number of the fault and the map.
+    fn into_view(self) -> Result<Self::View, (u16, Self)>;
+
+    /// The map that was a view.
+    fn of_view(view: Self::View) -> Self;
+
+    /// A view's clone.
+    fn twin_of(view: &Self::View, rt: Self::Runtime) -> Option<Self::View>;
+
+    fn into_parts(self) -> Vec<Shard<u64, u64>>;
+
+    fn into_pairs(self) -> OwningIter<u64, u64>;
+
+    fn into_pieces(self) -> pieces::OwningIter<u64, u64>;
+}
+
+/// What such a map becomes.
+type ViewOf<R> = ReadOnlyView<u64, u64, SpreadState, PackedLock<R>>;
+
+impl<R: Wait + Copy + Drop> Whole for Map<R> {
+    type View = ViewOf<R>;
+
+    fn listed(rt: R, alloc: Global, pairs: Vec<(u64, u64)>, in_pieces: bool) -> Option<Map<R>> {
+        if in_pieces {
+            from_par_iter(alloc, pairs, SpreadState, 2, rt).ok()
+        } else {
+            DashMap::from_iter(alloc, pairs.into_iter(), SpreadState, 2, rt).ok()
+        }
+    }
+
+    fn room(&self) -> usize {
+        self.capacity(&mut 1)
+    }
+
+    fn is_bare(&self) -> bool {
+        self.is_empty(&mut 1)
+    }
+
+    fn has(&self, key: u64) -> bool {
+        self.contains_key(&key, &mut 1)
+    }
+
+    fn misplace(&self, key: u64) -> bool {
+        let (hash, value) = (SpreadState.hash_one(&key), key.wrapping_mul(2));
+        match shard_locks(self).get(self.determine_map(&key) ^ 1) {
+            Some(lock) => lock.write(&mut 1).insert(hash, key, value).is_ok(),
+            None => false,
+        }
+    }
+
+    fn take(&mut self, pairs: Vec<(u64, u64)>) -> bool {
+        par_extend(self, pairs) == Ok(())
+    }
+
+    fn write<T: Threads + Sync>(&mut self, rt: &T, times: u64) -> u64 {
+        let calls = AtomicU64::new(0);
+        self.par_iter_mut()
+            .for_each(rt, |key: &u64, value: &mut u64| {
+                calls.fetch_add(1, Ordering::SeqCst);
+                *value = key.wrapping_mul(times);
+            });
+        calls.load(Ordering::SeqCst)
+    }
+
+    fn rewritten<T: Threads + Sync>(self, rt: &T) -> Map<R> {
+        let mut open = Unlocked::of(self);
+        open.par_write(
+            rt,
+            |key: &u64, value: &mut u64| *value = key.wrapping_mul(3),
+        );
+        open.par_write(
+            rt,
+            |key: &u64, value: &mut u64| *value = value.wrapping_sub(*key),
+        );
+        open.into_map()
+    }
+
+    fn into_view(self) -> Result<ViewOf<R>, (u16, Map<R>)> {
+        match self.into_read_only() {
+            Ok(view) => Ok(view),
+            Err(back) => Err((back.code(), back.into_map())),
+        }
+    }
+
+    fn of_view(view: ViewOf<R>) -> Map<R> {
+        view.into_inner()
+    }
+
+    fn twin_of(view: &ViewOf<R>, rt: R) -> Option<ViewOf<R>> {
+        CloneView::clone(view, rt).ok()
+    }
+
+    fn into_parts(self) -> Vec<Shard<u64, u64>> {
+        self.into_shards()
+    }
+
+    fn into_pairs(self) -> OwningIter<u64, u64> {
+        self.into_iter()
+    }
+
+    fn into_pieces(self) -> pieces::OwningIter<u64, u64> {
+        self.into_par_iter()
+    }
+}
+
+/// A view of numbers.
+pub trait View: Sized + Drop {
+    fn count(&self) -> usize;
+
+    fn is_bare(&self) -> bool;
+
+    fn room(&self) -> usize;
+
+    fn shard_count(&self) -> usize;
+
+    fn value(&self, key: u64) -> Option<u64>;
+
+    fn pair(&self, key: u64) -> Option<(u64, u64)>;
+
+    fn has(&self, key: u64) -> bool;
+
+    /// The pairs that a walk lends.
+    fn walked(&self, alloc: Global) -> Option<Vec<(u64, u64)>>;
+
+    /// The keys that one lends.
+    fn keys_in_order(&self, alloc: Global) -> Option<Vec<u64>>;
+
+    /// The values that one lends.
+    fn values_in_order(&self, alloc: Global) -> Option<Vec<u64>>;
+
+    /// The values in the order of the parallel form.
+    fn collected<T: Threads + Sync>(&self, rt: &T, alloc: Global) -> Option<Vec<u64>>;
+
+    /// What is printed.
+    fn text(&self, alloc: Global) -> Option<String>;
+
+    fn into_pieces(self) -> pieces::OwningIter<u64, u64>;
+}
+
+impl<R: Wait + Copy + Drop> View for ViewOf<R> {
+    fn count(&self) -> usize {
+        self.len()
+    }
+
+    fn is_bare(&self) -> bool {
+        self.is_empty()
+    }
+
+    fn room(&self) -> usize {
+        self.capacity()
+    }
+
+    fn shard_count(&self) -> usize {
+        self.shards().len()
+    }
+
+    fn value(&self, key: u64) -> Option<u64> {
+        self.get(&key).copied()
+    }
+
+    fn pair(&self, key: u64) -> Option<(u64, u64)> {
+        let (stored, value) = self.get_key_value(&key)?;
+        Some((*stored, *value))
+    }
+
+    fn has(&self, key: u64) -> bool {
+        self.contains_key(&key)
+    }
+
+    fn walked(&self, alloc: Global) -> Option<Vec<(u64, u64)>> {
+        let mut pairs = Vec::new(alloc);
+        for (key, value) in self.iter() {
+            pairs.push((*key, *value)).ok()?;
+        }
+        Some(pairs)
+    }
+
+    fn keys_in_order(&self, alloc: Global) -> Option<Vec<u64>> {
+        let mut keys = Vec::new(alloc);
+        for key in self.keys() {
+            keys.push(*key).ok()?;
+        }
+        Some(keys)
+    }
+
+    fn values_in_order(&self, alloc: Global) -> Option<Vec<u64>> {
+        let mut values = Vec::new(alloc);
+        for value in self.values() {
+            values.push(*value).ok()?;
+        }
+        Some(values)
+    }
+
+    fn collected<T: Threads + Sync>(&self, rt: &T, alloc: Global) -> Option<Vec<u64>> {
+        self.par_iter()
+            .map_collect(rt, alloc, |_: &u64, value: &u64| *value)
+            .ok()
+    }
+
+    fn text(&self, alloc: Global) -> Option<String> {
+        format!(in alloc; "{self:?}").ok()
+    }
+
+    fn into_pieces(self) -> pieces::OwningIter<u64, u64> {
+        self.into_par_iter()
+    }
+}
+
+/// The keys below `keys`, each with its double, on four shards, if there is memory for them.
+pub fn map_of<M: Numbers>(rt: M::Runtime, memory: M::Memory, keys: u64) -> Option<M> {
+    let mut map = M::empty(rt, memory, 4).ok()?;
     let mut right = true;
     for key in 0..keys {
-        right &= map.insert_mut(key, key.wrapping_mul(2)).is_ok();
+        right &= map.put(key, key.wrapping_mul(2)).is_some();
     }
-    if right {
-        Ok(map)
-    } else {
-        Err("no memory for a map".into())
-    }
+    if right { Some(map) } else { None }
 }
 
 /// A view of such a map.
-pub type View<R> = ReadOnlyView<u64, u64, SpreadState, PackedLock<R>>;
-
-/// A view of the keys below `keys`, each with its double, on four shards.
-pub fn view_of(rt: HostRuntime, keys: u64) -> Result<View<HostRuntime>, Fail> {
-    match map_of(rt, keys)?.into_read_only() {
-        Ok(view) => Ok(view),
-        Err(_) => Err("no view".into()),
-    }
+pub fn view_of<M: Whole>(rt: M::Runtime, alloc: Global, keys: u64) -> Option<M::View> {
+    let map: M = map_of(rt, alloc, keys)?;
+    map.into_view().ok()
 }
 
 /// Whether a map has the keys below `keys`, each with its double, and no other.
-pub fn has_all<R: Wait + Drop>(map: &Map<R>, keys: u64) -> bool {
-    let mut me = 1;
-    let mut right = map.len(&mut me) as u64 == keys;
+pub fn has_all<M: Numbers>(map: &M, keys: u64) -> bool {
+    let mut right = map.count() as u64 == keys;
     for key in 0..keys {
-        right &= map.view(&key, |_, value| *value, &mut me) == Some(key.wrapping_mul(2));
+        right &= map.value(key) == Some(key.wrapping_mul(2));
     }
     right
+}
+
+/// The first of some cases that isn't so.
+pub fn first_wrong(cases: &[(&'static str, Option<bool>)]) -> Option<&'static str> {
+    for (name, right) in cases {
+        if *right != Some(true) {
+            return Some(*name);
+        }
+    }
+    None
 }

@@ -1,5 +1,6 @@
 //! Keys and values that are texts.
 
+use crate::maps::first_wrong;
 use dashmap_iter::LendingWalks;
 use dashmap_iter::shard_guards::Looks;
 use dashmap_iter::walks::Walks;
@@ -9,13 +10,9 @@ use lock_api_spin::PackedLock;
 use std::alloc::Global;
 use std::hash::Hash;
 use std::sync::Wait;
-use std::test::Fail;
 
 /// A map whose locks are words that are tried again and again.
 type Spun<K, V, R> = DashMap<K, V, SpreadState, PackedLock<R>>;
-
-/// Numbers by names.
-type Named<R> = Spun<&'static str, u64, R>;
 
 /// An empty map of four shards.
 fn four<K: Eq + Hash + Drop, V: Drop, R: Drop + Copy>(
@@ -25,60 +22,71 @@ fn four<K: Eq + Hash + Drop, V: Drop, R: Drop + Copy>(
     DashMap::with_hasher_and_shard_amount(alloc, SpreadState, 4, rt)
 }
 
-#[test]
-fn a_closure_looks_at_a_text(rt: HostRuntime) -> Result<(), Fail> {
-    let map: Spun<u64, &'static str, HostRuntime> = four(rt, rt.alloc())?;
-    let mut right = map.insert(9, "Potato", &mut 1) == Ok(None);
-    right &= map.insert(12, "Chicken", &mut 1) == Ok(None);
-    right &= map.view(&9, |_, food| *food == "Potato", &mut 1) == Some(true);
-    right &= map.view(&12, |_, food| *food == "Potato", &mut 1) == Some(false);
-    assert!(rt; right && map.view(&30, |_, _| false, &mut 1).is_none());
-    Ok(())
+/// Whether a closure finds one of two foods by its number, and isn't called for a third.
+fn looks_at_foods<R: Wait + Copy + Drop>(rt: R, alloc: Global) -> Option<bool> {
+    let map: Spun<u64, &'static str, R> = four(rt, alloc).ok()?;
+    let mut right = true;
+    for (number, food) in [(9, "Potato"), (12, "Chicken")] {
+        right &= map.insert(number, food, &mut 1) == Ok(None);
+    }
+    for (number, is_potato) in [(9, Some(true)), (12, Some(false)), (30, None)] {
+        right &= map.view(&number, |_, food| *food == "Potato", &mut 1) == is_potato;
+    }
+    Some(right)
 }
 
-/// Puts three names in, and says whether they are new.
-fn are_put<R: Wait + Drop>(map: &Named<R>) -> bool {
-    let names = [("Albin", 15), ("Jones", 22), ("Charlie", 27)];
+/// Numbers by names.
+type Named<R> = Spun<&'static str, u64, R>;
+
+/// Puts names in, and says whether they are new.
+fn are_put<R: Wait + Drop>(map: &Named<R>, names: &[(&'static str, u64)]) -> bool {
     let mut right = true;
     for (name, age) in names {
-        right &= map.insert(name, age, &mut 1) == Ok(None);
+        right &= map.insert(*name, *age, &mut 1) == Ok(None);
     }
     right
 }
 
-/// Whether those stay that are older than 20.
+/// Takes names out, and says whether each had its number.
+fn are_taken<R: Wait + Drop>(map: &Named<R>, names: &[(&'static str, u64)]) -> bool {
+    let mut right = true;
+    for (name, age) in names {
+        right &= map.remove(name, &mut 1) == Some((*name, *age));
+    }
+    right
+}
+
+/// Whether two stay that are older than 20. They are a year older then.
 fn are_kept<R: Wait + Drop>(map: &Named<R>) -> bool {
     map.retain(|_, age| *age > 20, &mut 1);
-    map.len(&mut 1) == 2 && !map.contains_key(&"Albin", &mut 1)
-}
-
-/// Whether these are a year older then, as they are taken out.
-fn are_older<R: Wait + Drop>(map: &Named<R>) -> bool {
+    let are_two = map.len(&mut 1) == 2 && !map.contains_key(&"Albin", &mut 1);
     map.alter_all(|_, age| age.wrapping_add(1), &mut 1);
-    let mut right = true;
-    for (name, age) in [("Jones", 23), ("Charlie", 28)] {
-        right &= map.remove(&name, &mut 1) == Some((name, age));
-    }
-    right
+    are_two
 }
 
-#[test]
-fn walks_change_what_names_have(rt: HostRuntime) -> Result<(), Fail> {
-    let map: Named<HostRuntime> = four(rt, rt.alloc())?;
-    assert!(rt; are_put(&map) && are_kept(&map) && are_older(&map));
-    Ok(())
+/// Whether walks change what names have.
+fn change<R: Wait + Drop>(map: &Named<R>) -> bool {
+    are_put(map, &[("Albin", 15), ("Jones", 22), ("Charlie", 27)])
+        && are_kept(map)
+        && are_taken(map, &[("Jones", 23), ("Charlie", 28)])
+}
+
+/// How many pairs the shard of this number has, if there is one.
+fn pairs_in<R: Wait + Drop>(map: &Named<R>, shard: usize) -> Option<usize> {
+    let mut me = 1;
+    match map.shards().read(shard, &mut me) {
+        Some(shard) => Some(shard.len()),
+        None => None,
+    }
 }
 
 /// How many pairs the shards of a map have, each read in its turn.
 fn pairs_in_shards<R: Wait + Drop>(map: &Named<R>) -> usize {
-    let mut count = 0usize;
-    let shards = map.shards();
-    for shard in 0..shards.count() {
-        if let Some(guard) = shards.read(shard, &mut 1) {
-            count = count.wrapping_add(guard.len());
-        }
+    let mut pairs = 0usize;
+    for shard in 0..map.shards().count() {
+        pairs = pairs.wrapping_add(pairs_in(map, shard).unwrap_or(0));
     }
-    count
+    pairs
 }
 
 /// How many items a reading walk lends.
@@ -112,13 +120,31 @@ fn counted_up<R: Wait + Drop>(map: &Named<R>) -> Option<(&'static str, u64)> {
     last
 }
 
+/// Whether each look counts one pair.
+fn are_counted<R: Wait + Drop>(map: &Named<R>) -> bool {
+    let is_one = map.len(&mut 1) == 1 && pairs_in_shards(map) == 1 && items(map) == 1;
+    is_one && pairs_in(map, 4).is_none()
+}
+
+/// Whether a pair is counted in each way, and counted up.
+fn count_up<R: Wait + Drop>(map: &Named<R>) -> bool {
+    are_put(map, &[("Johnny", 21)])
+        && are_counted(map)
+        && counted_up(map) == Some(("Johnny", 21))
+        && are_taken(map, &[("Johnny", 22)])
+}
+
+/// Whether both are so of one map after the other.
+fn names_count<R: Wait + Copy + Drop>(rt: R, alloc: Global) -> Option<bool> {
+    let map: Named<R> = four(rt, alloc).ok()?;
+    Some(change(&map) && count_up(&map))
+}
+
 #[test]
-fn a_pair_is_counted_in_each_way(rt: HostRuntime) -> Result<(), Fail> {
-    let map: Named<HostRuntime> = four(rt, rt.alloc())?;
-    let mut right = map.insert("Johnny", 21, &mut 1) == Ok(None);
-    right &= map.len(&mut 1) == 1 && pairs_in_shards(&map) == 1 && items(&map) == 1;
-    right &= map.shards().read(4, &mut 1).is_none();
-    right &= counted_up(&map) == Some(("Johnny", 21));
-    assert!(rt; right && map.remove(&"Johnny", &mut 1) == Some(("Johnny", 22)));
-    Ok(())
+fn keys_and_values_are_texts(rt: HostRuntime) {
+    let wrong = first_wrong(&[
+        ("a closure looks at a text", looks_at_foods(rt, rt.alloc())),
+        ("walks change and count names", names_count(rt, rt.alloc())),
+    ]);
+    assert!(rt; wrong.is_none(), "{wrong:?}");
 }

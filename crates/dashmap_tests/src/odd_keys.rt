@@ -3,14 +3,13 @@
 
 use dashmap::set::DashSet;
 use dashmap_map::DashMap;
-use dashmap_plain::Plain;
+use dashmap_plain::{Plain, ReadOnlyView};
 use dashmap_record::{Caller, Recorded};
-use dashmap_table::{MapFault, Shards, SpreadState};
+use dashmap_table::{Shards, SpreadState};
 use lock_api_spin::PackedLock;
 use std::alloc::Global;
 use std::hash::{BuildHasher, Hash, Hasher};
 use std::sync::Wait;
-use std::test::Fail;
 
 /// A kind of keys, by their numbers.
 trait Kind {
@@ -197,7 +196,13 @@ impl BuildHasher for OneHash {
 }
 
 /// What holds keys.
-trait Holder<K> {
+trait Holder<K>: Sized + Drop {
+    /// What one is made of: what its locks wait with, its memory, and its hasher.
+    type Source;
+
+    /// One without keys. None where there is no memory.
+    fn empty(source: Self::Source) -> Option<Self>;
+
     /// Puts a key in, and tells whether it is new. None where there is no memory.
     fn put(&mut self, key: K) -> Option<bool>;
 
@@ -211,7 +216,13 @@ trait Holder<K> {
     fn length(&mut self) -> u64;
 }
 
-impl<K: Copy + Eq + Hash, S: BuildHasher> Holder<K> for Shards<K, u64, S> {
+impl<K: Copy + Eq + Hash, S: BuildHasher + Drop> Holder<K> for Shards<K, u64, S> {
+    type Source = (Global, S);
+
+    fn empty(source: (Global, S)) -> Option<Shards<K, u64, S>> {
+        Shards::new(source.0, 4, source.1).ok()
+    }
+
     fn put(&mut self, key: K) -> Option<bool> {
         let old = self.insert(key, 5).ok()?;
         Some(old.is_none())
@@ -238,7 +249,13 @@ impl<K: Copy + Eq + Hash, S: BuildHasher> Holder<K> for Shards<K, u64, S> {
 /// A map whose locks are words.
 type Map<K, S, R> = DashMap<K, u64, S, PackedLock<R>>;
 
-impl<K: Copy + Eq + Hash, S: BuildHasher, R: Wait + Drop> Holder<K> for Map<K, S, R> {
+impl<K: Copy + Eq + Hash, S: BuildHasher + Drop, R: Wait + Copy + Drop> Holder<K> for Map<K, S, R> {
+    type Source = (R, Global, S);
+
+    fn empty(source: (R, Global, S)) -> Option<Map<K, S, R>> {
+        DashMap::with_hasher_and_shard_amount(source.1, source.2, 4, source.0).ok()
+    }
+
     fn put(&mut self, key: K) -> Option<bool> {
         let old = self.insert(key, 5, &mut 1).ok()?;
         Some(old.is_none())
@@ -261,7 +278,13 @@ impl<K: Copy + Eq + Hash, S: BuildHasher, R: Wait + Drop> Holder<K> for Map<K, S
 /// A set whose locks are words.
 type Set<K, S, R> = DashSet<K, S, PackedLock<R>>;
 
-impl<K: Copy + Eq + Hash, S: BuildHasher, R: Wait + Drop> Holder<K> for Set<K, S, R> {
+impl<K: Copy + Eq + Hash, S: BuildHasher + Drop, R: Wait + Copy + Drop> Holder<K> for Set<K, S, R> {
+    type Source = (R, Global, S);
+
+    fn empty(source: (R, Global, S)) -> Option<Set<K, S, R>> {
+        DashSet::with_hasher(source.1, source.2, 1, source.0).ok()
+    }
+
     fn put(&mut self, key: K) -> Option<bool> {
         self.insert(key, &mut 1).ok()
     }
@@ -287,7 +310,20 @@ struct Noted<K: Copy + Eq + Hash, S: BuildHasher + Drop, R: Drop> {
     count: u64,
 }
 
-impl<K: Copy + Eq + Hash, S: BuildHasher + Drop, R: Wait + Drop> Holder<K> for Noted<K, S, R> {
+impl<K: Copy + Eq + Hash, S: BuildHasher + Drop, R: Wait + Copy + Drop> Holder<K>
+    for Noted<K, S, R> {
+    type Source = (R, Global, S);
+
+    fn empty(source: (R, Global, S)) -> Option<Noted<K, S, R>> {
+        let (map, mut callers) = Recorded::new(source.1, 4, source.2, 1, source.0).ok()?;
+        let caller = callers.pop()?;
+        Some(Noted {
+            map,
+            caller,
+            count: 0,
+        })
+    }
+
     fn put(&mut self, key: K) -> Option<bool> {
         let old = self.map.insert(key, 5, &mut self.caller, &mut 1).ok()?;
         self.count = self.count.wrapping_add(u64::from(old.is_none()));
@@ -336,66 +372,19 @@ fn empties<T: Kind, H: Holder<T::Key>>(holder: &mut H) -> bool {
     right & (holder.length() == 0)
 }
 
-/// On plain shards.
-fn holds_in_shards<T: Kind, S: BuildHasher + Drop>(
-    alloc: Global,
-    hasher: S,
-) -> Result<bool, MapFault> {
-    let mut shards: Shards<T::Key, u64, S> = Shards::new(alloc, 4, hasher)?;
-    Ok(holds::<T, Shards<T::Key, u64, S>>(&mut shards))
-}
-
-/// On a map.
-fn holds_in_map<T: Kind, S: BuildHasher + Drop, R: Wait + Copy + Drop>(
-    rt: R,
-    alloc: Global,
-    hasher: S,
-) -> Result<bool, MapFault> {
-    let mut map: Map<T::Key, S, R> = DashMap::with_hasher_and_shard_amount(alloc, hasher, 4, rt)?;
-    Ok(holds::<T, Map<T::Key, S, R>>(&mut map))
-}
-
-/// On a set.
-fn holds_in_set<T: Kind, S: BuildHasher + Drop, R: Wait + Copy + Drop>(
-    rt: R,
-    alloc: Global,
-    hasher: S,
-) -> Result<bool, MapFault> {
-    let mut set: Set<T::Key, S, R> = DashSet::with_hasher(alloc, hasher, 1, rt)?;
-    Ok(holds::<T, Set<T::Key, S, R>>(&mut set))
-}
-
-/// On a recorded map.
-fn holds_in_record<T: Kind, S: BuildHasher + Drop, R: Wait + Copy + Drop>(
-    rt: R,
-    alloc: Global,
-    hasher: S,
-) -> Result<bool, MapFault> {
-    let (map, mut callers) = Recorded::new(alloc, 4, hasher, 1, rt)?;
-    let Some(caller) = callers.pop() else {
-        return Ok(false);
-    };
-    let mut noted: Noted<T::Key, S, R> = Noted {
-        map,
-        caller,
-        count: 0,
-    };
-    Ok(holds::<T, Noted<T::Key, S, R>>(&mut noted))
-}
-
-/// On a view: each key is found under its other look, and shown as it was put in.
-fn holds_in_view<T: Kind, S: BuildHasher + Drop, R: Wait + Copy + Drop>(
-    rt: R,
-    alloc: Global,
-    hasher: S,
-) -> Result<bool, MapFault> {
-    let mut map: Map<T::Key, S, R> = DashMap::with_hasher_and_shard_amount(alloc, hasher, 4, rt)?;
-    for number in 0..T::count() {
-        let _new = map.put(T::key(number));
+/// Whether a new one holds them.
+fn new_holds<T: Kind, H: Holder<T::Key>>(source: H::Source) -> bool {
+    match H::empty(source) {
+        Some(mut holder) => holds::<T, H>(&mut holder),
+        None => false,
     }
-    let Ok(view) = map.into_read_only() else {
-        return Ok(false);
-    };
+}
+
+/// A view of odd keys.
+type View<K, S, R> = ReadOnlyView<K, u64, S, PackedLock<R>>;
+
+/// Whether each key of a view is found under its other look, and shown as it was put in.
+fn shows<T: Kind, S: BuildHasher, R: Drop>(view: &View<T::Key, S, R>) -> bool {
     let mut right = view.len() as u64 == T::count();
     for number in 0..T::count() {
         let look = T::look(&T::key(number));
@@ -404,30 +393,47 @@ fn holds_in_view<T: Kind, S: BuildHasher + Drop, R: Wait + Copy + Drop>(
             None => false,
         };
     }
-    Ok(right)
+    right
 }
 
-/// On all of them.
-fn holds_in_all<T: Kind, S: BuildHasher + Copy + Drop, R: Wait + Copy + Drop>(
+/// Something new that each key is put into.
+fn filled<T: Kind, H: Holder<T::Key>>(source: H::Source) -> Option<H> {
+    let mut holder = H::empty(source)?;
+    for number in 0..T::count() {
+        let _new = holder.put(T::key(number));
+    }
+    Some(holder)
+}
+
+/// Whether a view of a map with the keys shows them.
+fn is_shown<T: Kind, S: BuildHasher + Drop, R: Wait + Copy + Drop>(
+    source: (R, Global, S),
+) -> Option<bool> {
+    let map: Map<T::Key, S, R> = filled::<T, Map<T::Key, S, R>>(source)?;
+    let view = map.into_read_only().ok()?;
+    Some(shows::<T, S, R>(&view))
+}
+
+/// Whether all hold them.
+fn all_hold<T: Kind, S: BuildHasher + Copy + Drop, R: Wait + Copy + Drop>(
     rt: R,
     alloc: Global,
     hasher: S,
-) -> Result<bool, MapFault> {
-    let mut right = holds_in_shards::<T, S>(alloc, hasher)?;
-    right &= holds_in_map::<T, S, R>(rt, alloc, hasher)?;
-    right &= holds_in_set::<T, S, R>(rt, alloc, hasher)?;
-    right &= holds_in_record::<T, S, R>(rt, alloc, hasher)?;
-    right &= holds_in_view::<T, S, R>(rt, alloc, hasher)?;
-    Ok(right)
+) -> bool {
+    let source = (rt, alloc, hasher);
+    new_holds::<T, Shards<T::Key, u64, S>>((alloc, hasher))
+        & new_holds::<T, Map<T::Key, S, R>>(source)
+        & new_holds::<T, Set<T::Key, S, R>>(source)
+        & new_holds::<T, Noted<T::Key, S, R>>(source)
+        & (is_shown::<T, S, R>(source) == Some(true))
 }
 
 #[test]
-fn each_kind_of_odd_keys_is_held_by_all(rt: HostRuntime) -> Result<(), Fail> {
-    let mut right = holds_in_all::<Units, SpreadState, HostRuntime>(rt, rt.alloc(), SpreadState)?;
-    right &= holds_in_all::<Letters, SpreadState, HostRuntime>(rt, rt.alloc(), SpreadState)?;
-    right &= holds_in_all::<Labels, SpreadState, HostRuntime>(rt, rt.alloc(), SpreadState)?;
-    right &= holds_in_all::<Numbers, OneHash, HostRuntime>(rt, rt.alloc(), OneHash)?;
-    right &= holds_in_all::<Ends, SpreadState, HostRuntime>(rt, rt.alloc(), SpreadState)?;
-    assert!(rt; right);
-    Ok(())
+fn each_kind_of_odd_keys_is_held_by_all(rt: HostRuntime) {
+    let alloc = rt.alloc();
+    assert!(rt; all_hold::<Units, SpreadState, HostRuntime>(rt, alloc, SpreadState));
+    assert!(rt; all_hold::<Letters, SpreadState, HostRuntime>(rt, alloc, SpreadState));
+    assert!(rt; all_hold::<Labels, SpreadState, HostRuntime>(rt, alloc, SpreadState));
+    assert!(rt; all_hold::<Numbers, OneHash, HostRuntime>(rt, alloc, OneHash));
+    assert!(rt; all_hold::<Ends, SpreadState, HostRuntime>(rt, alloc, SpreadState));
 }

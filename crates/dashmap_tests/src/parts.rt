@@ -1,10 +1,10 @@
 //! Shards and pairs of a map that is given up.
 
-use crate::maps::map_of;
-use dashmap_plain::Plain;
-use dashmap_table::{SpreadState, is_shard_amount, route};
+use crate::maps::{Map, Whole, first_wrong, map_of};
+use dashmap_table::{Shard, SpreadState, is_shard_amount, route};
+use dashmap_view::OwningIter;
+use std::alloc::Global;
 use std::hash::BuildHasher;
-use std::test::Fail;
 
 /// The shard of a hash, of four.
 fn shard_of(hash: u64) -> usize {
@@ -15,10 +15,8 @@ fn shard_of(hash: u64) -> usize {
     }
 }
 
-#[test]
-fn the_shards_of_a_map_have_its_pairs_in_their_order(rt: HostRuntime) -> Result<(), Fail> {
-    let map = map_of(rt, 100)?;
-    let shards = map.into_shards();
+/// Whether each of the keys below a hundred is in the shard of its route, of four.
+fn have_a_hundred(shards: &[Shard<u64, u64>]) -> bool {
     let mut right = shards.len() == 4;
     for key in 0..100u64 {
         let hash = SpreadState.hash_one(&key);
@@ -27,31 +25,57 @@ fn the_shards_of_a_map_have_its_pairs_in_their_order(rt: HostRuntime) -> Result<
             None => false,
         };
     }
-    assert!(rt; right);
-    Ok(())
+    right
 }
 
-#[test]
-fn the_pairs_of_a_map_come_once_each_shards_in_order(rt: HostRuntime) -> Result<(), Fail> {
-    let map = map_of(rt, 100)?;
-    let mut sum = 0u64;
-    let mut pairs = 0u64;
-    let mut last = 0;
-    let mut right = true;
-    for (key, value) in map.into_iter() {
+/// Whether the shards of a map have its pairs.
+fn gives_its_shards<M: Whole>(rt: M::Runtime, alloc: Global) -> Option<bool> {
+    let map: M = map_of(rt, alloc, 100)?;
+    Some(have_a_hundred(&map.into_parts()))
+}
+
+/// Whether these are the keys below a hundred, each with its double, in the order of their shards.
+fn are_a_hundred(all: OwningIter<u64, u64>) -> bool {
+    let (mut sum, mut pairs) = (0u64, 0u64);
+    let (mut last, mut right) = (0, true);
+    for (key, value) in all {
         let shard = shard_of(SpreadState.hash_one(&key));
         right &= last <= shard && value == key.wrapping_mul(2);
         last = shard;
         pairs = pairs.wrapping_add(1);
         sum = sum.wrapping_add(key);
     }
-    assert!(rt; right && pairs == 100 && sum == 4950 && last > 0);
-    Ok(())
+    right && pairs == 100 && sum == 4950 && last > 0
+}
+
+/// Whether a map gives its pairs.
+fn gives_its_pairs<M: Whole>(rt: M::Runtime, alloc: Global) -> Option<bool> {
+    let map: M = map_of(rt, alloc, 100)?;
+    Some(are_a_hundred(map.into_pairs()))
+}
+
+/// Whether a map without pairs gives none, however often it is asked.
+fn gives_none<M: Whole>(rt: M::Runtime, alloc: Global) -> Option<bool> {
+    let map: M = map_of(rt, alloc, 0)?;
+    let mut pairs = map.into_pairs();
+    Some(pairs.next().is_none() && pairs.next().is_none())
 }
 
 #[test]
-fn a_map_without_pairs_gives_none(rt: HostRuntime) -> Result<(), Fail> {
-    let mut pairs = map_of(rt, 0)?.into_iter();
-    assert!(rt; pairs.next().is_none() && pairs.next().is_none());
-    Ok(())
+fn a_map_gives_its_shards_and_its_pairs(rt: HostRuntime) {
+    let wrong = first_wrong(&[
+        (
+            "the shards have the pairs of their routes",
+            gives_its_shards::<Map<HostRuntime>>(rt, rt.alloc()),
+        ),
+        (
+            "the pairs come once each, shards in order",
+            gives_its_pairs::<Map<HostRuntime>>(rt, rt.alloc()),
+        ),
+        (
+            "a map without pairs gives none",
+            gives_none::<Map<HostRuntime>>(rt, rt.alloc()),
+        ),
+    ]);
+    assert!(rt; wrong.is_none(), "{wrong:?}");
 }

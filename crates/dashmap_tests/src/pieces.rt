@@ -1,144 +1,153 @@
 //! Parallel forms of what a map becomes, and plain shards that are extended.
 
-use crate::maps::{has_all, map_of, view_of};
-use dashmap_map::DashMap;
-use dashmap_plain::{ExtendShards, Plain, Unlocked, from_par_iter, par_extend, par_extend_shards};
+use crate::maps::{Map, View, Whole, first_wrong, has_all, map_of, view_of};
+use dashmap_plain::{ExtendShards, par_extend_shards};
 use dashmap_table::{Shards, SpreadState};
-use lock_api_spin::PackedLock;
+use dashmap_view::parallel::OwningIter;
+use std::alloc::Global;
 use std::sync::atomic::{AtomicU64, Ordering};
-use std::test::Fail;
+use std::thread::Threads;
 
-#[test]
-fn a_view_answers_in_pieces_as_one_thread_would(rt: HostRuntime) -> Result<(), Fail> {
-    let view = view_of(rt, 100)?;
-    let doubles = view
-        .par_iter()
-        .map_collect(&rt, rt.alloc(), |_: &u64, value: &u64| *value)?;
-    let mut right = doubles.len() == 100;
-    let mut number = 0usize;
-    for value in view.values() {
-        right &= doubles.get(number) == Some(value);
-        number = number.wrapping_add(1);
-    }
-    let sum = AtomicU64::new(0);
-    view.into_par_iter().for_each(&rt, |key: u64, value: u64| {
+/// How many pairs are given up in pieces, and what their keys and values add up to.
+fn sums<T: Threads + Sync>(rt: &T, pairs: OwningIter<u64, u64>) -> (u64, u64) {
+    let (calls, sum) = (AtomicU64::new(0), AtomicU64::new(0));
+    pairs.for_each(rt, |key: u64, value: u64| {
+        calls.fetch_add(1, Ordering::SeqCst);
         sum.fetch_add(key.wrapping_add(value), Ordering::SeqCst);
     });
-    assert!(rt; right && sum.load(Ordering::SeqCst) == 14_850);
-    Ok(())
+    (calls.load(Ordering::SeqCst), sum.load(Ordering::SeqCst))
 }
 
-#[test]
-fn a_map_is_given_up_in_pieces(rt: HostRuntime) -> Result<(), Fail> {
-    let calls = AtomicU64::new(0);
-    let sum = AtomicU64::new(0);
-    map_of(rt, 100)?
-        .into_par_iter()
-        .for_each(&rt, |key: u64, value: u64| {
-            calls.fetch_add(1, Ordering::SeqCst);
-            sum.fetch_add(key.wrapping_add(value), Ordering::SeqCst);
-        });
-    assert!(rt; calls.load(Ordering::SeqCst) == 100 && sum.load(Ordering::SeqCst) == 14_850);
-    Ok(())
+/// Whether a view of a hundred pairs answers in pieces what its walk does, and gives up its pairs.
+fn answers_in_pieces<M: Whole<Runtime: Threads + Sync>>(
+    rt: M::Runtime,
+    alloc: Global,
+) -> Option<bool> {
+    let view = view_of::<M>(rt, alloc, 100)?;
+    let values = view.collected(&rt, alloc)?;
+    let are_walked = values.len() == 100 && values == view.values_in_order(alloc)?;
+    Some(are_walked && sums(&rt, view.into_pieces()) == (100, 14_850))
 }
 
-#[test]
-fn each_value_of_a_map_that_is_taken_apart_is_written(rt: HostRuntime) -> Result<(), Fail> {
-    let mut open = Unlocked::of(map_of(rt, 100)?);
-    open.par_write(
-        &rt,
-        |key: &u64, value: &mut u64| *value = key.wrapping_mul(3),
-    );
-    open.par_write(
-        &rt,
-        |key: &u64, value: &mut u64| *value = value.wrapping_sub(*key),
-    );
-    let map = open.into_map();
-    assert!(rt; has_all(&map, 100));
-    Ok(())
+/// Whether a map of a hundred pairs gives them up in pieces.
+fn is_given_up<M: Whole<Runtime: Threads + Sync>>(rt: M::Runtime, alloc: Global) -> Option<bool> {
+    let map: M = map_of(rt, alloc, 100)?;
+    Some(sums(&rt, map.into_pieces()) == (100, 14_850))
 }
 
-#[test]
-fn each_value_of_a_map_that_is_lent_is_written(rt: HostRuntime) -> Result<(), Fail> {
-    let mut map = map_of(rt, 100)?;
-    let calls = AtomicU64::new(0);
-    map.par_iter_mut()
-        .for_each(&rt, |key: &u64, value: &mut u64| {
-            calls.fetch_add(1, Ordering::SeqCst);
-            *value = key.wrapping_mul(3);
-        });
-    let mut me = 1;
-    let mut right = calls.load(Ordering::SeqCst) == 100 && map.len(&mut me) == 100;
+/// Whether a map that was taken apart has what was written meanwhile.
+fn is_rewritten<M: Whole<Runtime: Threads + Sync>>(rt: M::Runtime, alloc: Global) -> Option<bool> {
+    let map: M = map_of(rt, alloc, 100)?;
+    Some(has_all(&map.rewritten(&rt), 100))
+}
+
+/// Whether each of a hundred values of a map is written once.
+fn is_written<M: Whole<Runtime: Threads + Sync>>(rt: M::Runtime, alloc: Global) -> Option<bool> {
+    let mut map: M = map_of(rt, alloc, 100)?;
+    let mut right = map.write(&rt, 3) == 100 && map.count() == 100;
     for key in 0..100u64 {
-        right &= map.view(&key, |_, value| *value, &mut me) == Some(key.wrapping_mul(3));
+        right &= map.value(key) == Some(key.wrapping_mul(3));
     }
-    assert!(rt; right);
-    Ok(())
+    Some(right)
 }
 
-#[test]
-fn a_map_is_lent_and_used_again(rt: HostRuntime) -> Result<(), Fail> {
-    let mut map = map_of(rt, 20)?;
-    map.par_iter_mut()
-        .for_each(&rt, |_: &u64, value: &mut u64| *value = 0);
-    let mut right = map.insert_mut(20, 40)? == None;
-    map.par_iter_mut().for_each(
-        &rt,
-        |key: &u64, value: &mut u64| *value = key.wrapping_mul(2),
-    );
-    right &= has_all(&map, 21);
-    assert!(rt; right);
-    Ok(())
+/// Whether a map takes a pair between two times that its values are written.
+fn takes_a_pair<M: Whole<Runtime: Threads + Sync>>(rt: M::Runtime, alloc: Global) -> Option<bool> {
+    let mut map: M = map_of(rt, alloc, 20)?;
+    let mut right = map.write(&rt, 0) == 20 && map.put(20, 40) == Some(None);
+    right &= map.write(&rt, 2) == 21;
+    Some(right && has_all(&map, 21))
 }
 
-/// A map of small numbers on four shards.
-type Small = DashMap<u64, u64, SpreadState, PackedLock<HostRuntime>>;
+/// Whether a map has the later of two pairs of one key, made by one thread or by the parallel form.
+fn keeps_the_later<M: Whole<Runtime: Threads + Sync>>(
+    rt: M::Runtime,
+    alloc: Global,
+    in_pieces: bool,
+) -> Option<bool> {
+    let pairs = vec![in alloc; (1u64, 1u64), (1, 2)].ok()?;
+    let view = M::listed(rt, alloc, pairs, in_pieces)?.into_view().ok()?;
+    Some(view.collected(&rt, alloc)?.as_slice() == [2].as_slice())
+}
 
-#[test]
-fn a_later_pair_of_an_equal_key_replaces_the_value(rt: HostRuntime) -> Result<(), Fail> {
-    let pairs = vec![in rt.alloc(); (1u64, 1u64), (1, 2)]?;
-    let one: Small = DashMap::from_iter(rt.alloc(), pairs.into_iter(), SpreadState, 2, rt)?;
-    let pairs = vec![in rt.alloc(); (1u64, 1u64), (1, 2)]?;
-    let two: Small = from_par_iter(rt.alloc(), pairs, SpreadState, 2, rt)?;
+/// Whether a list extends a map in its order.
+fn is_extended<M: Whole>(rt: M::Runtime, alloc: Global) -> Option<bool> {
+    let mut map: M = map_of(rt, alloc, 3)?;
+    let is_taken = map.take(vec![in alloc; (3u64, 9u64), (1, 7), (3, 6), (1, 2)].ok()?);
+    Some(is_taken && has_all(&map, 4))
+}
+
+/// Whether the keys 1 and 2 were there, with 3 and 2. They are gone then.
+fn had_two(shards: &mut Shards<u64, u64, SpreadState>) -> bool {
     let mut right = true;
-    for made in [one, two] {
-        let Ok(view) = made.into_read_only() else {
-            return Err("no view".into());
-        };
-        let values = view
-            .par_iter()
-            .map_collect(&rt, rt.alloc(), |_: &u64, value: &u64| *value)?;
-        right &= values.len() == 1 && values.get(0) == Some(&2);
+    for (key, pair) in [(1, Some((1, 3))), (2, Some((2, 2))), (1, None)] {
+        right &= shards.remove(&key) == pair;
     }
-    assert!(rt; right);
-    Ok(())
+    right
+}
+
+/// Whether plain shards that take three pairs, by the parallel form or one after another, have the two keys of these.
+fn shards_take(alloc: Global, in_pieces: bool) -> Option<bool> {
+    let mut shards: Shards<u64, u64, SpreadState> = Shards::new(alloc, 4, SpreadState).ok()?;
+    let pairs = vec![in alloc; (1u64, 1u64), (2, 2), (1, 3)].ok()?;
+    let are_taken = if in_pieces {
+        par_extend_shards(&mut shards, pairs) == Ok(())
+    } else {
+        shards.extend(pairs.into_iter()) == Ok(())
+    };
+    Some(are_taken && had_two(&mut shards))
 }
 
 #[test]
-fn a_map_is_extended_by_a_list_in_its_order(rt: HostRuntime) -> Result<(), Fail> {
-    let mut map = map_of(rt, 3)?;
-    let pairs = vec![in rt.alloc(); (3u64, 9u64), (1, 7), (3, 6), (1, 2)]?;
-    let right = par_extend(&mut map, pairs) == Ok(());
-    assert!(rt; right && has_all(&map, 4));
-    Ok(())
+fn what_a_map_becomes_answers_in_pieces(rt: HostRuntime) {
+    let wrong = first_wrong(&[
+        (
+            "a view answers as one thread would",
+            answers_in_pieces::<Map<HostRuntime>>(rt, rt.alloc()),
+        ),
+        (
+            "a map is given up",
+            is_given_up::<Map<HostRuntime>>(rt, rt.alloc()),
+        ),
+        (
+            "each value of a map that is taken apart is written",
+            is_rewritten::<Map<HostRuntime>>(rt, rt.alloc()),
+        ),
+        (
+            "each value of a map that is lent is written",
+            is_written::<Map<HostRuntime>>(rt, rt.alloc()),
+        ),
+        (
+            "a map is lent and used again",
+            takes_a_pair::<Map<HostRuntime>>(rt, rt.alloc()),
+        ),
+    ]);
+    assert!(rt; wrong.is_none(), "{wrong:?}");
 }
 
 #[test]
-fn plain_shards_are_extended_by_a_list(rt: HostRuntime) -> Result<(), Fail> {
-    let mut shards: Shards<u64, u64, SpreadState> = Shards::new(rt.alloc(), 4, SpreadState)?;
-    let pairs = vec![in rt.alloc(); (1u64, 1u64), (2, 2), (1, 3)]?;
-    let mut right = par_extend_shards(&mut shards, pairs) == Ok(());
-    right &= shards.remove(&1) == Some((1, 3)) && shards.remove(&2) == Some((2, 2));
-    assert!(rt; right && shards.remove(&1) == None);
-    Ok(())
-}
-
-#[test]
-fn plain_shards_take_pairs_one_after_another(rt: HostRuntime) -> Result<(), Fail> {
-    let mut shards: Shards<u64, u64, SpreadState> = Shards::new(rt.alloc(), 4, SpreadState)?;
-    let pairs = vec![in rt.alloc(); (1u64, 1u64), (2, 2), (1, 3)]?;
-    let mut right = shards.extend(pairs.into_iter()) == Ok(());
-    right &= shards.remove(&1) == Some((1, 3)) && shards.remove(&2) == Some((2, 2));
-    assert!(rt; right && shards.remove(&1) == None);
-    Ok(())
+fn maps_and_plain_shards_take_lists(rt: HostRuntime) {
+    let wrong = first_wrong(&[
+        (
+            "a later pair of an equal key replaces the value",
+            keeps_the_later::<Map<HostRuntime>>(rt, rt.alloc(), false),
+        ),
+        (
+            "so does one of several threads",
+            keeps_the_later::<Map<HostRuntime>>(rt, rt.alloc(), true),
+        ),
+        (
+            "a map is extended by a list in its order",
+            is_extended::<Map<HostRuntime>>(rt, rt.alloc()),
+        ),
+        (
+            "plain shards are extended by a list",
+            shards_take(rt.alloc(), true),
+        ),
+        (
+            "plain shards take pairs one after another",
+            shards_take(rt.alloc(), false),
+        ),
+    ]);
+    assert!(rt; wrong.is_none(), "{wrong:?}");
 }

@@ -1,99 +1,93 @@
 //! Maps that become views, and views that become maps again.
 
-use crate::maps::{Map, has_all, map_of, view_of};
-use dashmap_map::parts::shard_locks;
-use dashmap_plain::Plain;
-use dashmap_table::SpreadState;
-use std::hash::BuildHasher;
-use std::sync::Wait;
-use std::test::Fail;
+use crate::maps::{Map, View, Whole, first_wrong, has_all, map_of, view_of};
+use std::alloc::Global;
 
-#[test]
-fn a_hundred_keys_become_a_view_and_a_map_again(rt: HostRuntime) -> Result<(), Fail> {
-    let view = view_of(rt, 100)?;
-    let mut right = view.len() == 100 && !view.is_empty() && view.capacity() >= 100;
+/// Whether a view finds the keys below a hundred, each with its double, and no other.
+fn finds_a_hundred<V: View>(view: &V) -> bool {
+    let mut right = view.count() == 100 && !view.is_bare() && view.room() >= 100;
     for key in 0..100u64 {
-        right &= view.get(&key) == Some(&key.wrapping_mul(2)) && view.contains_key(&key);
+        right &= view.value(key) == Some(key.wrapping_mul(2)) && view.has(key);
     }
-    right &= view.get(&100).is_none() && view.get_key_value(&7) == Some((&7, &14));
-    let mut met = 0u64;
-    for (key, value) in view.iter() {
-        right &= *value == key.wrapping_mul(2);
-        met = met.wrapping_add(1);
-    }
+    right && view.value(100).is_none() && view.pair(7) == Some((7, 14))
+}
+
+/// Whether the walks of a view meet those keys, once each, with their doubles.
+fn meets_a_hundred<V: View>(view: &V, alloc: Global) -> Option<bool> {
+    let (keys, values) = (view.keys_in_order(alloc)?, view.values_in_order(alloc)?);
+    let mut right = keys.len() == 100 && values.len() == 100;
     let mut sums = (0u64, 0u64);
-    for key in view.keys() {
-        sums.0 = sums.0.wrapping_add(*key);
+    for (number, (key, value)) in view.walked(alloc)?.into_iter().enumerate() {
+        right &= value == key.wrapping_mul(2) && number < 100;
+        right &= keys.get(number) == Some(&key) && values.get(number) == Some(&value);
+        sums = (sums.0.wrapping_add(key), sums.1.wrapping_add(value));
     }
-    for value in view.values() {
-        sums.1 = sums.1.wrapping_add(*value);
-    }
-    right &= met == 100 && sums == (4950, 9900) && view.shards().len() == 4;
-    let map = view.into_inner();
-    assert!(rt; right && has_all(&map, 100));
-    Ok(())
+    Some(right && sums == (4950, 9900) && view.shard_count() == 4)
+}
+
+/// Whether a view shows the keys of a map, which has them again after it.
+fn comes_back<M: Whole>(rt: M::Runtime, alloc: Global) -> Option<bool> {
+    let view = view_of::<M>(rt, alloc, 100)?;
+    let is_shown = finds_a_hundred(&view) && meets_a_hundred(&view, alloc)?;
+    Some(is_shown && has_all(&M::of_view(view), 100))
+}
+
+/// Whether a map that was a view takes a pair and becomes a view again.
+fn shows_more<M: Whole>(rt: M::Runtime, alloc: Global) -> Option<bool> {
+    let mut map = M::of_view(view_of::<M>(rt, alloc, 10)?);
+    let is_new = map.put(10, 20) == Some(None);
+    let right = is_new && has_all(&map, 11);
+    let view = map.into_view().ok()?;
+    Some(right && view.count() == 11 && view.value(10) == Some(20))
+}
+
+/// Whether a view and the map after it have the room that the map before it had.
+fn keeps_its_room<M: Whole>(rt: M::Runtime, alloc: Global) -> Option<bool> {
+    let map: M = map_of(rt, alloc, 4)?;
+    let room = map.room();
+    let view = map.into_view().ok()?;
+    let right = view.room() == room && view.count() == 4 && !view.is_bare();
+    let map = M::of_view(view);
+    Some(right && map.room() == room && map.count() == 4 && !map.is_bare())
+}
+
+/// Whether a map with a pair in a wrong shard comes back in place of a view.
+fn is_displaced<M: Whole>(rt: M::Runtime, alloc: Global) -> Option<bool> {
+    let map: M = map_of(rt, alloc, 7)?;
+    let is_put = map.misplace(7);
+    let (code, map) = map.into_view().err()?;
+    Some(is_put && code == 33 && map.count() == 8 && map.has(6))
+}
+
+/// Whether a view of two pairs is printed as a map.
+fn is_printed<M: Whole>(rt: M::Runtime, alloc: Global) -> Option<bool> {
+    let text = view_of::<M>(rt, alloc, 2)?.text(alloc)?;
+    Some(text.as_str() == "{0: 0, 1: 2}" || text.as_str() == "{1: 2, 0: 0}")
 }
 
 #[test]
-fn a_map_that_was_a_view_takes_pairs_and_becomes_one_again(rt: HostRuntime) -> Result<(), Fail> {
-    let view = view_of(rt, 10)?;
-    let mut map = view.into_inner();
-    let mut right = map.insert_mut(10, 20) == Ok(None);
-    right &= has_all(&map, 11);
-    let Ok(view) = map.into_read_only() else {
-        return Err("no view".into());
-    };
-    assert!(rt; right && view.len() == 11 && view.get(&10) == Some(&20));
-    Ok(())
-}
-
-#[test]
-fn a_view_and_the_map_after_it_have_the_room_that_the_map_had(rt: HostRuntime) -> Result<(), Fail> {
-    let map = map_of(rt, 4)?;
-    let mut me = 1;
-    let room = map.capacity(&mut me);
-    let Ok(view) = map.into_read_only() else {
-        return Err("no view".into());
-    };
-    let mut right = view.capacity() == room && view.len() == 4 && !view.is_empty();
-    let map = view.into_inner();
-    right &= map.capacity(&mut me) == room && map.len(&mut me) == 4;
-    assert!(rt; right && !map.is_empty(&mut me));
-    Ok(())
-}
-
-/// Puts a key into a shard of a map under a hash, whatever its route is.
-fn put<R: Wait + Drop>(map: &Map<R>, shard: usize, hash: u64, key: u64) -> bool {
-    let mut me = 1;
-    match shard_locks(map).get(shard) {
-        Some(lock) => lock
-            .write(&mut me)
-            .insert(hash, key, key.wrapping_mul(2))
-            .is_ok(),
-        None => false,
-    }
-}
-
-#[test]
-fn a_pair_in_a_wrong_shard_gives_the_map_back(rt: HostRuntime) -> Result<(), Fail> {
-    let map = map_of(rt, 7)?;
-    let hash = SpreadState.hash_one(&7u64);
-    let away = map.determine_map(&7) ^ 1;
-    let mut right = put(&map, away, hash, 7);
-    let Err(back) = map.into_read_only() else {
-        return Err("a view of a pair in a wrong shard".into());
-    };
-    right &= back.code() == 33;
-    let map = back.into_map();
-    let mut me = 1;
-    assert!(rt; right && map.len(&mut me) == 8 && map.contains_key(&6, &mut me));
-    Ok(())
-}
-
-#[test]
-fn a_view_prints_as_a_map(rt: HostRuntime) -> Result<(), Fail> {
-    let view = view_of(rt, 2)?;
-    let text = format!(in rt.alloc(); "{view:?}")?;
-    assert!(rt; text.as_str() == "{0: 0, 1: 2}" || text.as_str() == "{1: 2, 0: 0}");
-    Ok(())
+fn maps_become_views_and_maps_again(rt: HostRuntime) {
+    let wrong = first_wrong(&[
+        (
+            "a hundred keys become a view and a map again",
+            comes_back::<Map<HostRuntime>>(rt, rt.alloc()),
+        ),
+        (
+            "a map that was a view takes pairs and becomes one again",
+            shows_more::<Map<HostRuntime>>(rt, rt.alloc()),
+        ),
+        (
+            "a view and the map after it have the room that the map had",
+            keeps_its_room::<Map<HostRuntime>>(rt, rt.alloc()),
+        ),
+        (
+            "a pair in a wrong shard gives the map back",
+            is_displaced::<Map<HostRuntime>>(rt, rt.alloc()),
+        ),
+        (
+            "a view prints as a map",
+            is_printed::<Map<HostRuntime>>(rt, rt.alloc()),
+        ),
+    ]);
+    assert!(rt; wrong.is_none(), "{wrong:?}");
 }
