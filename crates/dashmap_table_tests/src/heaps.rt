@@ -4,18 +4,15 @@ use crate::calls::{Answer, Call, Hashes, Numbers, make};
 use dashmap_calls::workload;
 use dashmap_table::{MapFault, Shard, Shards};
 use linked_list_allocator::LocalHeap;
-use std::alloc::Global;
+use std::alloc::{Allocator, Global};
 use std::hash::{BuildHasherDefault, FoldHasher};
 use std::test::Fail;
 
 type Fold = BuildHasherDefault<FoldHasher>;
 
-/// A shard in a heap.
-type Small<'h> = Numbers<&'h LocalHeap>;
-
-/// A shard in that heap with as many pairs as it takes, up to a number, and how many it took.
-fn packed(heap: &LocalHeap, most: u64) -> (Small<'_>, u64) {
-    let mut shard = Shard::new(heap);
+/// A shard in that memory with as many pairs as it takes, up to a number, and how many it took.
+fn packed<A: Allocator + Clone>(memory: A, most: u64) -> (Numbers<A>, u64) {
+    let mut shard = Shard::new(memory);
     for key in 0..most {
         if make(&mut shard, Call::Insert(key, key, key)) != Answer::Absent {
             return (shard, key);
@@ -25,12 +22,12 @@ fn packed(heap: &LocalHeap, most: u64) -> (Small<'_>, u64) {
 }
 
 /// Whether a call answers this.
-fn answers(shard: &mut Small<'_>, call: Call, answer: Answer) -> bool {
+fn answers<A: Allocator + Clone>(shard: &mut Numbers<A>, call: Call, answer: Answer) -> bool {
     make(shard, call) == answer
 }
 
 /// Whether the keys below a number are there with themselves, and no others.
-fn has_all(shard: &mut Small<'_>, count: u64) -> bool {
+fn has_all<A: Allocator + Clone>(shard: &mut Numbers<A>, count: u64) -> bool {
     let even = make(shard, Call::FindEach(Hashes::Own, 0, 0, count));
     let odd = make(shard, Call::FindEach(Hashes::Own, 1, 0, count));
     even == Answer::Number(count.div_ceil(2))
@@ -38,23 +35,30 @@ fn has_all(shard: &mut Small<'_>, count: u64) -> bool {
         && answers(shard, Call::Len, Answer::Number(count))
 }
 
-/// On a heap: how many of ten keys are taken, if a refused one comes back and changes nothing, and one that is there
-/// needs no memory.
-fn taken_of_ten(heap: &LocalHeap) -> Option<u64> {
-    let (mut shard, count) = packed(heap, 10);
+/// Whether a refused pair comes back and changes nothing.
+fn is_handed_back<A: Allocator + Clone>(shard: &mut Numbers<A>, key: u64) -> bool {
     let capacity = shard.capacity();
+    answers(shard, Call::Insert(key, key, 7), Answer::Back(key, 7))
+        && shard.capacity() == capacity
+        && answers(shard, Call::Find(key, key), Answer::Absent)
+}
+
+/// Whether keys that are there need no memory.
+fn are_replaced<A: Allocator + Clone>(shard: &mut Numbers<A>, count: u64) -> bool {
     let mut right = true;
-    if count < 10 {
-        let refused = Answer::Back(count, 7);
-        right &= answers(&mut shard, Call::Insert(count, count, 7), refused);
-        right &= shard.capacity() == capacity;
-        right &= answers(&mut shard, Call::Find(count, count), Answer::Absent);
-    }
     for key in 0..count {
-        right &= answers(&mut shard, Call::Insert(key, key, 100), Answer::Number(key));
-        right &= answers(&mut shard, Call::Insert(key, key, key), Answer::Number(100));
+        right &= answers(shard, Call::Insert(key, key, 100), Answer::Number(key));
+        right &= answers(shard, Call::Insert(key, key, key), Answer::Number(100));
     }
-    if right && has_all(&mut shard, count) {
+    right
+}
+
+/// In a memory: how many of ten keys are taken, if a refused one comes back and changes nothing, and one that is there
+/// needs no memory.
+fn taken_of_ten<A: Allocator + Clone>(memory: A) -> Option<u64> {
+    let (mut shard, count) = packed(memory, 10);
+    let is_back = count == 10 || is_handed_back(&mut shard, count);
+    if is_back && are_replaced(&mut shard, count) && has_all(&mut shard, count) {
         Some(count)
     } else {
         None
@@ -77,11 +81,11 @@ fn a_refused_insertion_hands_the_pair_back_and_a_present_key_needs_no_memory(
     Ok(())
 }
 
-/// On a heap: whether twelve pairs fill it, and whether a shard without spare room shrinks to its pairs.
-fn is_full_and_shrinks(heap: &LocalHeap) -> (bool, bool) {
-    let (mut shard, count) = packed(heap, 12);
+/// In a memory: whether so many pairs fill it, and whether a shard without spare room shrinks to its pairs.
+fn is_full_and_shrinks<A: Allocator + Clone>(memory: A, most: u64) -> (bool, bool) {
+    let (mut shard, count) = packed(memory, most);
     let is_shrunk = shard.shrink().is_ok() && shard.capacity() as u64 == count;
-    (count < 12, is_shrunk && has_all(&mut shard, count))
+    (count < most, is_shrunk && has_all(&mut shard, count))
 }
 
 #[test]
@@ -89,21 +93,21 @@ fn a_shard_without_spare_room_shrinks_without_memory(rt: HostRuntime) -> Result<
     let mut full = false;
     for size in 2..40 {
         let heap = LocalHeap::new(rt.alloc(), size * 64)?;
-        let (is_full, shrinks) = is_full_and_shrinks(&heap);
+        let (is_full, shrinks) = is_full_and_shrinks(&heap, 12);
         full |= is_full;
         assert!(rt; shrinks || !is_full, "of {size}");
     }
     let heap = LocalHeap::new(rt.alloc(), 0)?;
-    let mut shard: Small<'_> = Shard::new(&heap);
-    assert!(rt; full && shard.shrink().is_ok() && shard.capacity() == 0);
+    let (is_full, shrinks) = is_full_and_shrinks(&heap, 0);
+    assert!(rt; full && !is_full && shrinks);
     Ok(())
 }
 
-/// Plain shards in a heap.
-type SmallShards<'h> = Shards<u64, u64, Fold, &'h LocalHeap>;
+/// Plain shards in some memory.
+type Small<A> = Shards<u64, u64, Fold, A>;
 
 /// On shards: whether each of the first two has room for one more, or makes it.
-fn have_room(map: &mut SmallShards<'_>) -> bool {
+fn have_room<A: Allocator + Clone>(map: &mut Small<A>) -> bool {
     for shard in 0..2 {
         if shard >= map.count() || map.reserve(shard).is_err() {
             return false;
@@ -113,7 +117,7 @@ fn have_room(map: &mut SmallShards<'_>) -> bool {
 }
 
 /// On shards: whether room that was had is had again, and is enough for a pair; `None` where none was had.
-fn room_is_had_again(map: &mut SmallShards<'_>) -> Option<bool> {
+fn room_is_had_again<A: Allocator + Clone>(map: &mut Small<A>) -> Option<bool> {
     if !have_room(map) {
         return None;
     }
@@ -122,7 +126,7 @@ fn room_is_had_again(map: &mut SmallShards<'_>) -> Option<bool> {
 }
 
 /// On shards: how many of twelve keys are refused, if each comes back and isn't there.
-fn refused_of_twelve(map: &mut SmallShards<'_>) -> Option<u64> {
+fn refused_of_twelve<A: Allocator + Clone>(map: &mut Small<A>) -> Option<u64> {
     let mut refused = 0u64;
     for key in 1..13 {
         if let Err(back) = map.insert(key, 5u64) {
@@ -135,6 +139,13 @@ fn refused_of_twelve(map: &mut SmallShards<'_>) -> Option<u64> {
     Some(refused)
 }
 
+/// Both on two new shards, if there is memory for them.
+fn tried_on_new<A: Allocator + Clone>(memory: A) -> Option<(Option<bool>, Option<u64>)> {
+    let mut map: Small<A> = Shards::new(memory, 2, Fold::new()).ok()?;
+    let again = room_is_had_again(&mut map);
+    Some((again, refused_of_twelve(&mut map)))
+}
+
 #[test]
 fn plain_shards_hand_the_pair_back_and_refuse_no_room_that_is_there(
     rt: HostRuntime,
@@ -142,22 +153,19 @@ fn plain_shards_hand_the_pair_back_and_refuse_no_room_that_is_there(
     let (mut reserved, mut refused) = (false, false);
     for size in 4..80 {
         let heap = LocalHeap::new(rt.alloc(), size * 32)?;
-        let Ok(mut map) = Shards::new(&heap, 2, Fold::new()) else {
-            continue;
-        };
-        let again = room_is_had_again(&mut map);
-        reserved |= again == Some(true);
-        let back = refused_of_twelve(&mut map);
-        refused |= back > Some(0);
-        assert!(rt; again != Some(false) && back.is_some(), "of {size}");
+        if let Some((again, back)) = tried_on_new(&heap) {
+            reserved |= again == Some(true);
+            refused |= back > Some(0);
+            assert!(rt; again != Some(false) && back.is_some(), "of {size}");
+        }
     }
     assert!(rt; reserved && refused);
     Ok(())
 }
 
-/// What plain shards in a heap are refused as.
-fn fault_of(heap: &LocalHeap, shards: usize) -> Option<MapFault> {
-    let made: Result<SmallShards<'_>, MapFault> = Shards::new(heap, shards, Fold::new());
+/// What plain shards in that memory are refused as.
+fn fault_of<A: Allocator + Clone>(memory: A, shards: usize) -> Option<MapFault> {
+    let made: Result<Small<A>, MapFault> = Shards::new(memory, shards, Fold::new());
     made.err()
 }
 

@@ -2,79 +2,86 @@
 
 use dashmap_table::{capacity_share, default_shards, is_shard_amount, route};
 
-#[test]
-fn hashes_route_by_the_bits_below_the_seven_highest(rt: HostRuntime) {
-    assert!(rt; is_shard_amount(4));
-    for (hash, want) in [
-        (0, 0),
-        (1 << 55, 1),
-        (1 << 56, 2),
-        ((1 << 57) - 1, 3),
-        (1 << 57, 0),
-    ] {
-        assert!(rt; route(hash, 4) == want, "at {hash}");
+/// What is asked.
+#[derive(Clone, Copy, Debug)]
+enum Asked {
+    /// The shard of a hash, of so many shards.
+    Route(u64, usize),
+    /// The share of a capacity that each of so many shards has.
+    Share(usize, usize),
+    /// How many shards there are for so many threads.
+    Shards(usize),
+    /// Whether there may be so many shards: 1, or 0.
+    IsAmount(usize),
+}
+
+/// The answer.
+fn answer(asked: Asked) -> Option<usize> {
+    match asked {
+        Asked::Route(hash, shards) if is_shard_amount(shards) => Some(route(hash, shards)),
+        Asked::Share(capacity, shards) if is_shard_amount(shards) => {
+            capacity_share(capacity, shards)
+        }
+        Asked::Shards(threads) => default_shards(threads),
+        Asked::IsAmount(shards) => Some(usize::from(is_shard_amount(shards))),
+        _ => None,
     }
 }
 
-#[test]
-fn two_shards_are_told_apart_by_one_bit(rt: HostRuntime) {
-    assert!(rt; is_shard_amount(2));
-    for (hash, want) in [
-        (0, 0),
-        ((1 << 56) - 1, 0),
-        (1 << 56, 1),
-        ((1 << 57) - 1, 1),
-        ((1 << 57) + (1 << 56), 1),
-        (u64::MAX, 1),
-    ] {
-        assert!(rt; route(hash, 2) == want, "at {hash}");
+/// The first of some questions that is answered otherwise.
+fn first_wrong(rows: &[(Asked, Option<usize>)]) -> Option<Asked> {
+    for (asked, wanted) in rows {
+        if answer(*asked) != *wanted {
+            return Some(*asked);
+        }
     }
+    None
 }
 
-#[test]
-fn the_most_shards_are_told_apart_by_sixteen_bits(rt: HostRuntime) {
-    assert!(rt; is_shard_amount(65_536));
-    for (hash, want) in [((1 << 41) - 1, 0), (1 << 41, 1), ((1 << 57) - 1, 65_535)] {
-        assert!(rt; route(hash, 65_536) == want, "at {hash}");
-    }
-}
+const ROWS: &[(Asked, Option<usize>)] = &[
+    // hashes route by the bits below the seven highest: two shards are told apart by one bit, the most by sixteen
+    (Asked::Route(0, 4), Some(0)),
+    (Asked::Route(1 << 55, 4), Some(1)),
+    (Asked::Route(1 << 56, 4), Some(2)),
+    (Asked::Route((1 << 57) - 1, 4), Some(3)),
+    (Asked::Route(1 << 57, 4), Some(0)),
+    (Asked::Route(0, 2), Some(0)),
+    (Asked::Route((1 << 56) - 1, 2), Some(0)),
+    (Asked::Route(1 << 56, 2), Some(1)),
+    (Asked::Route((1 << 57) - 1, 2), Some(1)),
+    (Asked::Route((1 << 57) + (1 << 56), 2), Some(1)),
+    (Asked::Route(u64::MAX, 2), Some(1)),
+    (Asked::Route((1 << 41) - 1, 65_536), Some(0)),
+    (Asked::Route(1 << 41, 65_536), Some(1)),
+    (Asked::Route((1 << 57) - 1, 65_536), Some(65_535)),
+    // shares are rounded up
+    (Asked::Share(0, 4), Some(0)),
+    (Asked::Share(1, 4), Some(1)),
+    (Asked::Share(5, 4), Some(2)),
+    (Asked::Share(32, 32), Some(1)),
+    (Asked::Share(1 << 50, 4), Some(1 << 48)),
+    (Asked::Share((1 << 50) + 1, 4), None),
+    (Asked::Share(usize::MAX - 3, 4), None),
+    (Asked::Share(usize::MAX, 4), None),
+    // shards follow from the threads
+    (Asked::Shards(0), Some(4)),
+    (Asked::Shards(1), Some(4)),
+    (Asked::Shards(3), Some(16)),
+    (Asked::Shards(16_384), Some(65_536)),
+    (Asked::Shards(16_385), None),
+    // amounts are powers of two in range
+    (Asked::IsAmount(0), Some(0)),
+    (Asked::IsAmount(1), Some(0)),
+    (Asked::IsAmount(2), Some(1)),
+    (Asked::IsAmount(3), Some(0)),
+    (Asked::IsAmount(4), Some(1)),
+    (Asked::IsAmount(32), Some(1)),
+    (Asked::IsAmount(65_536), Some(1)),
+    (Asked::IsAmount(131_072), Some(0)),
+];
 
 #[test]
-fn shares_are_rounded_up(rt: HostRuntime) {
-    assert!(rt; is_shard_amount(4) && is_shard_amount(32));
-    assert!(rt; capacity_share(0, 4) == Some(0));
-    assert!(rt; capacity_share(1, 4) == Some(1));
-    assert!(rt; capacity_share(5, 4) == Some(2));
-    assert!(rt; capacity_share(32, 32) == Some(1));
-    assert!(rt; capacity_share(1 << 50, 4) == Some(1 << 48));
-    assert!(rt; capacity_share((1 << 50) + 1, 4) == None);
-    assert!(rt; capacity_share(usize::MAX - 3, 4) == None);
-    assert!(rt; capacity_share(usize::MAX, 4) == None);
-}
-
-#[test]
-fn shards_follow_from_the_threads(rt: HostRuntime) {
-    for (threads, want) in [
-        (0, Some(4)),
-        (1, Some(4)),
-        (3, Some(16)),
-        (16_384, Some(65_536)),
-        (16_385, None),
-    ] {
-        assert!(rt; default_shards(threads) == want, "at {threads}");
-    }
-}
-
-#[test]
-fn amounts_are_powers_of_two_in_range(rt: HostRuntime) {
-    for (shards, want) in [
-        (0, false),
-        (1, false),
-        (2, true),
-        (3, false),
-        (65_536, true),
-        (131_072, false),
-    ] {
-        assert!(rt; is_shard_amount(shards) == want, "at {shards}");
-    }
+fn hashes_capacities_and_threads_are_shared_out(rt: HostRuntime) {
+    let wrong = first_wrong(ROWS);
+    assert!(rt; wrong.is_none(), "{wrong:?}");
 }

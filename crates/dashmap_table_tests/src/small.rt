@@ -5,17 +5,21 @@ use std::test::Fail;
 
 #[test]
 fn a_try_tells_what_it_found(rt: HostRuntime) -> Result<(), Fail> {
-    let present: TryResult<u64> = TryResult::Present(5);
-    let absent: TryResult<u64> = TryResult::Absent;
-    let locked: TryResult<u64> = TryResult::Locked;
-    assert!(rt; present.is_present() & !present.is_absent() & !present.is_locked());
-    assert!(rt; absent.is_absent() & !absent.is_present() & !absent.is_locked());
-    assert!(rt; locked.is_locked() & !locked.is_present() & !locked.is_absent());
-    let told = format!(in rt.alloc(); "{present:?} {absent:?} {locked:?}")?;
-    assert!(rt; told.as_str() == "Present(5) Absent Locked");
-    assert!(rt; present.try_unwrap() == Some(5));
-    assert!(rt; absent.try_unwrap().is_none());
-    assert!(rt; locked.try_unwrap().is_none());
+    for (found, is, name, value) in [
+        (
+            TryResult::Present(5u64),
+            [true, false, false],
+            "Present(5)",
+            Some(5),
+        ),
+        (TryResult::Absent, [false, true, false], "Absent", None),
+        (TryResult::Locked, [false, false, true], "Locked", None),
+    ] {
+        let told = format!(in rt.alloc(); "{found:?}")?;
+        let flags = [found.is_present(), found.is_absent(), found.is_locked()];
+        assert!(rt; told.as_str() == name && flags == is, "{name}");
+        assert!(rt; found.try_unwrap() == value, "{name}");
+    }
     assert!(rt; TryResult::Present(7u64).unwrap() == 7);
     Ok(())
 }

@@ -11,6 +11,7 @@ use std::sync::Wait;
 use std::sync::atomic::{AtomicU64, Ordering};
 use std::test::Fail;
 use std::thread;
+use std::thread::Threads;
 use std::time::{Clock, Duration};
 
 /// A map of numbers over rows of a table.
@@ -62,26 +63,45 @@ fn inserts<R: Wait + Clock>(
     is_held & (old == Ok(None))
 }
 
+/// One thread holds shard 0 while the other inserts on shard 1. Answers what each tells.
+fn both<R: Wait + Threads + Clock + Sync>(
+    rt: &R,
+    map: &Shared<'_, '_, R>,
+    caller: &mut Caller<u64, u64>,
+    one: &mut ThreadData,
+    two: &mut ThreadData,
+) -> (bool, bool) {
+    let flag = AtomicU64::new(0);
+    thread::join(
+        rt,
+        || holds(rt, map, &flag, one),
+        || inserts(rt, map, &flag, caller, two),
+    )
+}
+
+/// The same on a new map over rows of a table.
+fn both_over<R: Wait + Threads + Clock + Sync>(
+    rt: &R,
+    table: &LockTable<'_, R>,
+    alloc: Global,
+) -> Result<(bool, bool), Fail> {
+    let (mut one, mut two) = (table.lot().thread_data()?, table.lot().thread_data()?);
+    let made: Result<(Shared<'_, '_, R>, _), MapFault> = Recorded::new(
+        alloc,
+        2,
+        Fold::new(),
+        1,
+        table,
+    );
+    let (map, mut callers) = made?;
+    let mut caller = callers.pop().ok_or("no caller")?;
+    Ok(both(rt, &map, &mut caller, &mut one, &mut two))
+}
+
 #[test]
 fn a_held_shard_keeps_no_other_shard_waiting(rt: HostRuntime) -> Result<(), Fail> {
     let lot = ParkingLot::new(rt, rt.alloc(), 3, 7)?;
     let table = LockTable::new(rt.alloc(), &lot, 2)?;
-    let made: Result<(Shared<'_, '_, HostRuntime>, _), MapFault> = Recorded::new(
-        rt.alloc(),
-        2,
-        Fold::new(),
-        1,
-        &table,
-    );
-    let (map, mut callers) = made?;
-    let mut caller = callers.pop().ok_or("no caller")?;
-    let (mut one, mut two) = (lot.thread_data()?, lot.thread_data()?);
-    let flag = AtomicU64::new(0);
-    let ended = thread::join(
-        &rt,
-        || holds(&rt, &map, &flag, &mut one),
-        || inserts(&rt, &map, &flag, &mut caller, &mut two),
-    );
-    assert!(rt; ended == (true, true));
+    assert!(rt; both_over(&rt, &table, rt.alloc())? == (true, true));
     Ok(())
 }

@@ -4,6 +4,7 @@ use dashmap_record::history::{Call, CallReply, Entered, GatherFault, gather};
 use dashmap_table::{is_shard_amount, route};
 use std::alloc::{AllocError, Allocator};
 use std::hash::BuildHasher;
+use std::mem;
 use std::test::Fail;
 
 type Entry = Entered<u64, u64>;
@@ -53,102 +54,134 @@ fn other() -> Entry {
     entry(1, 1, 1, Call::Remove(key_on(1)), CallReply::None)
 }
 
-/// What is gathered of the histories of shards 0 and 1 and of the logs of callers 0 and 1.
+/// Caller 0 inserts 5 on shard 0, replaces it by 6, fails to do so again, finds the 6, and removes it, at the stamps 1
+/// to 5, which are the letters.
+fn of_replacement(letter: u8) -> Option<Entry> {
+    let key = key_on(0);
+    let (stamp, call, reply) = match letter {
+        b'1' => (1, Call::Insert(key, 5), CallReply::None),
+        b'2' => (2, Call::ReplaceIf(key, 5, 6), CallReply::Flag(true)),
+        b'3' => (3, Call::ReplaceIf(key, 5, 6), CallReply::Flag(false)),
+        b'4' => (4, Call::GetCopied(key), CallReply::Value(6)),
+        b'5' => (5, Call::Remove(key), CallReply::Pair(key, 6)),
+        _ => return None,
+    };
+    Some(entry(0, stamp, 0, call, reply))
+}
+
+/// The note of a letter: `a`, `b` and `c` are the first, the second and the other. `s` is the other of a strange caller.
+/// `e`, `h` and `r` are the second elsewhere, by another hash, and with another reply. A digit is that of a replacement.
+fn note(letter: u8) -> Option<Entry> {
+    match letter {
+        b'a' => Some(first()),
+        b'b' => Some(second()),
+        b'c' => Some(other()),
+        b's' => Some(Entered {
+            caller: 7,
+            ..other()
+        }),
+        b'e' => Some(Entered {
+            shard: 1,
+            ..second()
+        }),
+        b'h' => Some(Entered {
+            hash: second().hash ^ 1,
+            ..second()
+        }),
+        b'r' => Some(Entered {
+            reply: CallReply::Value(11),
+            ..second()
+        }),
+        _ => of_replacement(letter),
+    }
+}
+
+/// The lists that a text has the notes of: one ends at each bar.
+fn lists<A: Allocator + Copy + Drop>(alloc: A, text: &str) -> Result<Lists<A>, AllocError> {
+    let mut all = Vec::new(alloc);
+    let mut list = Vec::new(alloc);
+    for letter in text.as_bytes() {
+        match note(*letter) {
+            Some(entry) => list.push(entry)?,
+            None => all.push(mem::replace(&mut list, Vec::new(alloc)))?,
+        }
+    }
+    Ok(all)
+}
+
+/// What is gathered of the histories of shards 0, 1, .. and of the logs of callers 0, 1, ..
 fn gathered<A: Allocator + Copy + Drop>(
     alloc: A,
-    histories: [&[Entry]; 2],
-    logs: [&[Entry]; 2],
+    histories: &str,
+    logs: &str,
 ) -> Result<Vec<Entry, A>, GatherFault> {
     let histories = lists(alloc, histories)?;
     let logs = lists(alloc, logs)?;
     gather(alloc, histories, logs, &Fold::new())
 }
 
-fn lists<A: Allocator + Copy>(alloc: A, parts: [&[Entry]; 2]) -> Result<Lists<A>, AllocError> {
-    let mut all = Vec::new(alloc);
-    for part in parts {
-        let mut list = Vec::new(alloc);
-        list.extend_from_slice(part)?;
-        all.push(list)?;
+/// How many entries are gathered, or why none is.
+fn counted<A: Allocator + Copy + Drop>(
+    alloc: A,
+    histories: &str,
+    logs: &str,
+) -> Result<usize, GatherFault> {
+    match gathered(alloc, histories, logs) {
+        Ok(all) => Ok(all.len()),
+        Err(fault) => Err(fault),
     }
-    Ok(all)
+}
+
+/// Histories, logs, and what is counted of them.
+type Row = (&'static str, &'static str, Result<usize, GatherFault>);
+
+/// The number of the first row, if any, of which something else is counted.
+fn wrong_row<A: Allocator + Copy + Drop>(alloc: A, rows: &[Row]) -> Option<usize> {
+    for row in 0..rows.len() {
+        let (histories, logs, wanted) = &rows[row];
+        if counted(alloc, histories, logs) != *wanted {
+            return Some(row);
+        }
+    }
+    None
 }
 
 #[test]
 fn notes_that_belong_together_are_merged_by_stamp_and_shard(rt: HostRuntime) -> Result<(), Fail> {
-    let notes = [first(), second()];
-    let all = gathered(rt.alloc(), [&notes, &[other()]], [&notes, &[other()]])?;
-    assert!(rt; all.len() == 3);
-    assert!(rt; all[0] == first() && all[1] == other() && all[2] == second());
+    let all = gathered(rt.alloc(), "ab|c|", "ab|c|")?;
+    assert!(rt; all.as_slice() == [first(), other(), second()].as_slice());
     Ok(())
 }
 
 #[test]
 fn nothing_at_all_is_an_empty_list(rt: HostRuntime) {
-    let all = gathered(rt.alloc(), [&[], &[]], [&[], &[]]);
-    assert!(rt; all.is_ok_and(|all| all.is_empty()));
+    assert!(rt; counted(rt.alloc(), "||", "||") == Ok(0));
 }
+
+const WAYS: &[Row] = &[
+    ("aa|c|", "ab|c|", Err(GatherFault::StampOrder)),
+    ("ab|c|", "a|c|", Err(GatherFault::NotInLog)),
+    ("ab|s|", "ab|c|", Err(GatherFault::NotInLog)),
+    ("a|c|", "ab|c|", Err(GatherFault::NotInHistory)),
+    ("ae|c|", "ae|c|", Err(GatherFault::NotInHistory)),
+    ("a|ce|", "ae|c|", Err(GatherFault::WrongShard)),
+    ("ah|c|", "ah|c|", Err(GatherFault::WrongHash)),
+    ("ar|c|", "ar|c|", Err(GatherFault::WrongReply)),
+];
 
 #[test]
 fn each_way_of_doctoring_has_its_name(rt: HostRuntime) {
-    let (a, b, c) = (first(), second(), other());
-    let alloc = rt.alloc();
-    let stamps = gathered(alloc, [&[a, a], &[c]], [&[a, b], &[c]]);
-    assert!(rt; matches!(stamps, Err(GatherFault::StampOrder)));
-    let unlogged = gathered(alloc, [&[a, b], &[c]], [&[a], &[c]]);
-    assert!(rt; matches!(unlogged, Err(GatherFault::NotInLog)));
-    let stranger = Entered { caller: 7, ..c };
-    let strange = gathered(alloc, [&[a, b], &[stranger]], [&[a, b], &[c]]);
-    assert!(rt; matches!(strange, Err(GatherFault::NotInLog)));
-    let lost = gathered(alloc, [&[a], &[c]], [&[a, b], &[c]]);
-    assert!(rt; matches!(lost, Err(GatherFault::NotInHistory)));
-    let elsewhere = Entered { shard: 1, ..b };
-    let renumbered = gathered(alloc, [&[a, elsewhere], &[c]], [&[a, elsewhere], &[c]]);
-    assert!(rt; matches!(renumbered, Err(GatherFault::NotInHistory)));
-    let moved = gathered(alloc, [&[a], &[c, elsewhere]], [&[a, elsewhere], &[c]]);
-    assert!(rt; matches!(moved, Err(GatherFault::WrongShard)));
-    let unhashed = Entered {
-        hash: b.hash ^ 1,
-        ..b
-    };
-    let rehashed = gathered(alloc, [&[a, unhashed], &[c]], [&[a, unhashed], &[c]]);
-    assert!(rt; matches!(rehashed, Err(GatherFault::WrongHash)));
-    let invented = Entered {
-        reply: CallReply::Value(11),
-        ..b
-    };
-    let replied = gathered(alloc, [&[a, invented], &[c]], [&[a, invented], &[c]]);
-    assert!(rt; matches!(replied, Err(GatherFault::WrongReply)));
+    let wrong = wrong_row(rt.alloc(), WAYS);
+    assert!(rt; wrong.is_none(), "row {wrong:?}");
 }
 
 #[test]
 fn a_replacement_needs_the_value_that_was_seen(rt: HostRuntime) {
-    let key = key_on(0);
-    let put = entry(0, 1, 0, Call::Insert(key, 5), CallReply::None);
-    let done = entry(0, 2, 0, Call::ReplaceIf(key, 5, 6), CallReply::Flag(true));
-    let again = entry(0, 3, 0, Call::ReplaceIf(key, 5, 6), CallReply::Flag(false));
-    let seen = entry(0, 4, 0, Call::GetCopied(key), CallReply::Value(6));
-    let gone = entry(0, 5, 0, Call::Remove(key), CallReply::Pair(key, 6));
-    let notes = [put, done, again, seen, gone];
-    let all = gathered(rt.alloc(), [&notes, &[]], [&notes, &[]]);
-    assert!(rt; all.is_ok_and(|all| all.len() == 5));
+    assert!(rt; counted(rt.alloc(), "12345||", "12345||") == Ok(5));
 }
 
 #[test]
-fn three_histories_are_a_wrong_amount_where_there_is_an_entry(rt: HostRuntime) -> Result<(), Fail> {
-    let alloc = rt.alloc();
-    let mut histories = lists(alloc, [&[first()], &[]])?;
-    histories.push(Vec::new(alloc))?;
-    let some = gather(
-        alloc,
-        histories,
-        lists(alloc, [&[first()], &[]])?,
-        &Fold::new(),
-    );
-    assert!(rt; matches!(some, Err(GatherFault::WrongShard)));
-    let mut empty = lists(alloc, [&[], &[]])?;
-    empty.push(Vec::new(alloc))?;
-    let none = gather(alloc, empty, lists(alloc, [&[], &[]])?, &Fold::new());
-    assert!(rt; none.is_ok_and(|all| all.is_empty()));
-    Ok(())
+fn three_histories_are_a_wrong_amount_where_there_is_an_entry(rt: HostRuntime) {
+    assert!(rt; counted(rt.alloc(), "a|||", "a||") == Err(GatherFault::WrongShard));
+    assert!(rt; counted(rt.alloc(), "|||", "||") == Ok(0));
 }

@@ -103,35 +103,52 @@ where
     thread::for_each_mut(rt, parts, CALLERS, &|_, part| calls(map, part, count));
 }
 
-/// The histories and logs of callers in threads that each made so many calls.
-fn recorded<R: Wait + Threads + Sync + Copy>(
-    rt: R,
-    alloc: Global,
-    count: u64,
-) -> Result<(Lists, Lists), Fail> {
-    let lot = ParkingLot::new(rt, alloc, 9, 7)?;
-    let threads = threads(&lot, alloc)?;
-    let table = LockTable::new(alloc, &lot, 8)?;
-    let made: Result<(Shared<'_, '_, R>, _), MapFault> = Recorded::new(
-        alloc,
-        8,
-        Fold::new(),
-        CALLERS,
-        &table,
-    );
-    let (map, callers) = made?;
-    let mut parts = parts(alloc, callers, threads)?;
-    call_all(&rt, &map, &mut parts, count);
+/// The logs of callers, if each call was answered.
+fn logs(alloc: Global, parts: Vec<Part, Global>) -> Result<Lists, Fail> {
     let mut logs = Vec::new(alloc);
     let mut are_answered = true;
     for part in parts {
         are_answered = are_answered & part.is_answered;
         logs.push(part.caller.log())?;
     }
-    if !are_answered {
-        return Err(Fail::from("a refused call"));
+    if are_answered {
+        Ok(logs)
+    } else {
+        Err("a refused call".into())
     }
+}
+
+/// The histories and logs of callers in threads that each made so many calls, over rows of a table.
+fn recorded_over<R: Wait + Threads + Sync>(
+    rt: &R,
+    table: &LockTable<'_, R>,
+    alloc: Global,
+    count: u64,
+) -> Result<(Lists, Lists), Fail> {
+    let threads = threads(table.lot(), alloc)?;
+    let made: Result<(Shared<'_, '_, R>, _), MapFault> = Recorded::new(
+        alloc,
+        8,
+        Fold::new(),
+        CALLERS,
+        table,
+    );
+    let (map, callers) = made?;
+    let mut parts = parts(alloc, callers, threads)?;
+    call_all(rt, &map, &mut parts, count);
+    let logs = logs(alloc, parts)?;
     Ok((map.histories(), logs))
+}
+
+/// The same over a new table.
+fn recorded<R: Wait + Threads + Sync + Copy>(
+    rt: R,
+    alloc: Global,
+    count: u64,
+) -> Result<(Lists, Lists), Fail> {
+    let lot = ParkingLot::new(rt, alloc, 9, 7)?;
+    let table = LockTable::new(alloc, &lot, 8)?;
+    recorded_over(&rt, &table, alloc, count)
 }
 
 #[test]
@@ -151,65 +168,102 @@ fn copied(alloc: Global, lists: &Lists) -> Result<Lists, AllocError> {
     Ok(all)
 }
 
+/// A way in which notes are doctored: what an entry has in place of its own, or what the lists have.
+#[derive(Clone, Copy)]
+enum Way {
+    Stamp(u64),
+    Caller(usize),
+    OtherShard,
+    OtherHash,
+    Reply(CallReply<u64, u64>),
+    /// The histories in reverse order.
+    Reversed,
+    /// A log without its last entry.
+    Short,
+}
+
+/// Changes an entry.
+fn change(entry: &mut Entry, way: Way) {
+    match way {
+        Way::Stamp(stamp) => entry.stamp = stamp,
+        Way::Caller(caller) => entry.caller = caller,
+        Way::OtherShard => entry.shard = entry.shard ^ 1,
+        Way::OtherHash => entry.hash = entry.hash ^ 1,
+        Way::Reply(reply) => entry.reply = reply,
+        Way::Reversed | Way::Short => {}
+    }
+}
+
 /// Changes the entry with this caller and stamp, wherever it is.
-fn change<F: Fn(&mut Entry)>(lists: &mut Lists, found: &Entry, f: &F)
-    requires { F.IsAlwaysCallable f.now }
-{
+fn change_each(lists: &mut Lists, found: &Entry, way: Way) {
     for list in lists.iter_mut() {
         for entry in list.iter_mut() {
             if (entry.caller == found.caller) & (entry.stamp == found.stamp) {
-                f(entry);
+                change(entry, way);
             }
         }
     }
 }
 
-/// What is gathered where each copy of one entry was changed alike.
-fn doctored<F: Fn(&mut Entry)>(
+/// Changes lists as a whole.
+fn change_lists(histories: &mut Lists, logs: &mut Lists, way: Way) {
+    match way {
+        Way::Reversed => histories.reverse(),
+        Way::Short => {
+            if let Some(log) = logs.get_mut(3) {
+                let _lost = log.pop();
+            }
+        }
+        _ => {}
+    }
+}
+
+/// What is gathered where each copy of one entry was changed alike, or the lists were.
+fn doctored(
     alloc: Global,
     notes: &(Lists, Lists),
     found: &Entry,
-    f: F,
-) -> Result<Option<GatherFault>, AllocError>
-    requires { F.IsAlwaysCallable f }
-{
-    let (mut histories, mut logs) = (copied(alloc, &notes.0)?, copied(alloc, &notes.1)?);
-    change(&mut histories, found, &f);
-    change(&mut logs, found, &f);
+    way: Way,
+) -> Result<Option<GatherFault>, AllocError> {
+    let mut histories = copied(alloc, &notes.0)?;
+    let mut logs = copied(alloc, &notes.1)?;
+    change_each(&mut histories, found, way);
+    change_each(&mut logs, found, way);
+    change_lists(&mut histories, &mut logs, way);
     Ok(gather(alloc, histories, logs, &Fold::new()).err())
+}
+
+const WAYS: &[(Way, GatherFault)] = &[
+    (Way::Stamp(0), GatherFault::StampOrder),
+    (Way::Caller(CALLERS), GatherFault::NotInLog),
+    (Way::OtherShard, GatherFault::NotInHistory),
+    (Way::OtherHash, GatherFault::WrongHash),
+    (Way::Reply(CallReply::Pair(1, 1)), GatherFault::WrongReply),
+    (Way::Reversed, GatherFault::NotInHistory),
+    (Way::Short, GatherFault::NotInLog),
+];
+
+/// How many ways of doctoring are named as their rows say, up to the first that isn't.
+fn named(alloc: Global, notes: &(Lists, Lists), found: &Entry) -> Result<usize, AllocError> {
+    for row in 0..WAYS.len() {
+        let (way, fault) = WAYS[row];
+        if doctored(alloc, notes, found, way)? != Some(fault) {
+            return Ok(row);
+        }
+    }
+    Ok(WAYS.len())
+}
+
+/// An entry that stands in a log.
+fn found(logs: &Lists) -> Option<Entry> {
+    logs.get(3)?.get(250).copied()
 }
 
 #[test]
 fn what_is_doctored_is_named(rt: HostRuntime) -> Result<(), Fail> {
-    let alloc = rt.alloc();
     let notes = recorded(rt, rt.alloc(), 500)?;
-    let found = *notes
-        .1
-        .get(3)
-        .and_then(|log| log.get(250))
-        .ok_or("no entry")?;
-    let level = doctored(alloc, &notes, &found, |entry| entry.stamp = 0)?;
-    assert!(rt; level == Some(GatherFault::StampOrder));
-    let strange = doctored(alloc, &notes, &found, |entry| entry.caller = CALLERS)?;
-    assert!(rt; strange == Some(GatherFault::NotInLog));
-    let moved = doctored(alloc, &notes, &found, |entry| entry.shard = entry.shard ^ 1)?;
-    assert!(rt; moved == Some(GatherFault::NotInHistory));
-    let hashed = doctored(alloc, &notes, &found, |entry| entry.hash = entry.hash ^ 1)?;
-    assert!(rt; hashed == Some(GatherFault::WrongHash));
-    let replied = doctored(
-        alloc,
-        &notes,
-        &found,
-        |entry| entry.reply = CallReply::Pair(1, 1),
-    )?;
-    assert!(rt; replied == Some(GatherFault::WrongReply));
-    let (mut histories, logs) = (copied(alloc, &notes.0)?, copied(alloc, &notes.1)?);
-    histories.reverse();
-    let swapped = gather(rt.alloc(), histories, logs, &Fold::new()).err();
-    assert!(rt; swapped == Some(GatherFault::NotInHistory));
-    let (histories, mut logs) = (copied(alloc, &notes.0)?, copied(alloc, &notes.1)?);
-    let lost = logs.get_mut(3).and_then(|log| log.pop());
-    let dropped = gather(rt.alloc(), histories, logs, &Fold::new()).err();
-    assert!(rt; lost.is_some() & (dropped == Some(GatherFault::NotInLog)));
+    let found = found(&notes.1).ok_or("no entry")?;
+    let named = named(rt.alloc(), &notes, &found)?;
+    assert!(rt; named == WAYS.len(), "row {named}");
     Ok(())
 }
