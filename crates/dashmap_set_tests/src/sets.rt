@@ -57,11 +57,50 @@ pub enum Answer {
 }
 
 impl Answer {
+    /// What a guard lends, and its key.
+    fn lent(lent: u64, key: u64) -> Answer {
+        if lent == key {
+            Answer::Number(key)
+        } else {
+            Answer::Flag(false)
+        }
+    }
+
     /// A key that may be there.
     fn of_key(key: Option<u64>) -> Answer {
         match key {
             Some(key) => Answer::Number(key),
             None => Answer::Absent,
+        }
+    }
+}
+
+/// What a walk met.
+#[derive(Clone, Copy, Default)]
+struct Tally {
+    count: u64,
+    sum: u64,
+    /// How many lent another key than their own.
+    wrong: u64,
+    refused: u64,
+}
+
+impl Tally {
+    fn lend(&mut self, lent: u64, key: u64) {
+        self.count = self.count.wrapping_add(1);
+        self.sum = self.sum.wrapping_add(lent);
+        self.wrong = self.wrong.wrapping_add(u64::from(lent != key));
+    }
+
+    fn refuse(&mut self) {
+        self.refused = self.refused.wrapping_add(1);
+    }
+
+    fn answer(&self) -> Answer {
+        match (self.wrong, self.refused) {
+            (0, 0) => Answer::Met(self.count, self.sum),
+            (0, 1) => Answer::Refused(self.count),
+            _ => Answer::Flag(false),
         }
     }
 }
@@ -126,8 +165,7 @@ impl<S: BuildHasher + Drop, Q: RawRwLock<Runtime: Wait> + Drop, A: Allocator + C
 
     fn lent(&self, key: u64, me: &mut Q::Party) -> Answer {
         match self.get(&key, me) {
-            Some(guard) if *guard == *guard.key() => Answer::Number(*guard),
-            Some(_) => Answer::Flag(false),
+            Some(guard) => Answer::lent(*guard, *guard.key()),
             None => Answer::Absent,
         }
     }
@@ -173,26 +211,18 @@ impl<S: BuildHasher + Drop, Q: RawRwLock<Runtime: Wait> + Drop, A: Allocator + C
     }
 
     fn met(&self, me: &mut Q::Party) -> Answer {
-        let (mut count, mut sum, mut wrong, mut refused) = (0u64, 0u64, 0u64, 0u64);
+        let mut tally = Tally::default();
         let walk = {
             let me = &mut *me;
             self.iter(me)
         };
         for item in walk {
             match item {
-                Ok(key) => {
-                    count = count.wrapping_add(1);
-                    sum = sum.wrapping_add(*key);
-                    wrong = wrong.wrapping_add(u64::from(*key != *key.key()));
-                }
-                Err(_) => refused = refused.wrapping_add(1),
+                Ok(key) => tally.lend(*key, *key.key()),
+                Err(_) => tally.refuse(),
             }
         }
-        match (wrong, refused) {
-            (0, 0) => Answer::Met(count, sum),
-            (0, 1) => Answer::Refused(count),
-            _ => Answer::Flag(false),
-        }
+        tally.answer()
     }
 
     fn shard_of(&self, key: u64) -> usize {
