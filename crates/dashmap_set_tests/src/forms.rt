@@ -4,6 +4,8 @@ use crate::sets::{Keys, Made, Spun};
 use crate::whole::Whole;
 use dashmap_parallel::{NoThreadData, ParExtendFault};
 use std::alloc::{AllocError, Global};
+use std::sync::Wait;
+use std::sync::atomic::{AtomicU64, Ordering};
 use std::test::Fail;
 use std::thread::Threads;
 
@@ -16,8 +18,62 @@ fn keys_below(alloc: Global, amount: u64) -> Result<Vec<u64>, AllocError> {
     Ok(keys)
 }
 
+/// How many keys the form that lends visits with so many threads' data, and what they add up to.
+fn visited<R: Threads + Wait + Sync + Drop>(
+    rt: &R,
+    set: &Spun<R>,
+    parties: &mut [u32],
+) -> Result<(u64, u64), NoThreadData> {
+    let (visits, sum) = (AtomicU64::new(0), AtomicU64::new(0));
+    set.par_iter(parties)?.for_each(rt, |key: &u64| {
+        visits.fetch_add(1, Ordering::SeqCst);
+        sum.fetch_add(*key, Ordering::SeqCst);
+    });
+    Ok((visits.load(Ordering::SeqCst), sum.load(Ordering::SeqCst)))
+}
+
+/// The keys in the order of that form.
+fn lent<R: Threads + Wait + Sync + Drop>(
+    rt: &R,
+    alloc: Global,
+    set: &Spun<R>,
+    parties: &mut [u32],
+) -> Option<Vec<u64>> {
+    let keys = set.par_iter(parties).ok()?;
+    keys.map_collect(rt, alloc, |key: &u64| *key).ok()
+}
+
+/// The keys in the order of the form that gives them.
+fn given<R: Threads + Wait + Sync + Drop>(rt: &R, alloc: Global, set: Spun<R>) -> Option<Vec<u64>> {
+    set.into_par_iter()
+        .map_collect(rt, alloc, |key: u64| key)
+        .ok()
+}
+
+/// How many keys that form gives, and what they add up to.
+fn given_up<R: Threads + Wait + Sync + Drop>(rt: &R, set: Spun<R>) -> (u64, u64) {
+    let (visits, sum) = (AtomicU64::new(0), AtomicU64::new(0));
+    set.into_par_iter().for_each(rt, |key: u64| {
+        visits.fetch_add(1, Ordering::SeqCst);
+        sum.fetch_add(key, Ordering::SeqCst);
+    });
+    (visits.load(Ordering::SeqCst), sum.load(Ordering::SeqCst))
+}
+
+/// Puts the keys below an amount in by the form that shares the set.
+fn share<R: Threads + Wait + Sync + Drop>(
+    rt: &R,
+    alloc: Global,
+    set: &Spun<R>,
+    amount: u64,
+    parties: &mut [u32],
+) -> Result<(), ParExtendFault> {
+    let keys = keys_below(alloc, amount).map_err(|_| ParExtendFault::NoMemory)?;
+    set.par_extend_shared(rt, keys, parties)
+}
+
 /// Whether these are a hundred keys in the order of a set's shards.
-fn are_in_order<K: Whole>(set: &K, keys: &[u64]) -> bool {
+fn are_in_order<K: Keys>(set: &K, keys: &[u64]) -> bool {
     let (mut right, mut last) = (keys.len() == 100, 0);
     for key in keys {
         let shard = set.shard_of(*key);
@@ -28,59 +84,57 @@ fn are_in_order<K: Whole>(set: &K, keys: &[u64]) -> bool {
 }
 
 /// Whether a set takes a hundred keys, and then the same, by the data of three and of five threads.
-fn takes_a_hundred<K: Whole, T: Threads + Sync>(
-    set: &K,
-    rt: &T,
+fn takes_a_hundred<R: Threads + Wait + Sync + Copy + Drop>(
+    rt: &R,
     alloc: Global,
-) -> Result<bool, AllocError> {
+    set: &Spun<R>,
+) -> bool {
     let mut parties = [1u32, 2, 3, 4, 5, 6, 7, 8];
     let (three, five) = parties.split_at_mut(3);
-    let mut right = set.share(rt, keys_below(alloc, 100)?, three) == Ok(());
-    right &= set.share(rt, keys_below(alloc, 100)?, five) == Ok(());
-    Ok(right && set.count(&mut 9) == 100)
+    let mut right = share(rt, alloc, set, 100, three) == Ok(());
+    right &= share(rt, alloc, set, 100, five) == Ok(());
+    right && set.count(&mut 9) == 100
 }
 
 /// Whether the form that lends visits these with the data of one, two and eight threads.
-fn visits_a_hundred<K: Whole, T: Threads + Sync>(set: &K, rt: &T) -> bool {
+fn visits_a_hundred<R: Threads + Wait + Sync + Drop>(rt: &R, set: &Spun<R>) -> bool {
     let mut parties = [1u32, 2, 3, 4, 5, 6, 7, 8];
     let mut right = true;
     for threads in [1, 2, 8] {
-        right &= set.visited(rt, &mut parties[..threads]) == Ok((100, 4_950));
+        right &= visited(rt, set, &mut parties[..threads]) == Ok((100, 4_950));
     }
     right
 }
 
 /// On a set for so many threads: whether each form does with each number of threads' data what calls one by one do.
-fn agrees<K: Whole<Locks: Threads + Sync>>(
-    locks: K::Locks,
+fn agrees<R: Threads + Wait + Sync + Copy + Drop>(
+    rt: R,
     alloc: Global,
     parallelism: usize,
 ) -> Result<bool, Fail> {
-    let set = K::empty(locks, alloc, parallelism)?;
-    let right = takes_a_hundred(&set, &locks, alloc)? && visits_a_hundred(&set, &locks);
-    let lent = set.lent_all(&locks, alloc, &mut [1, 2, 3, 4, 5, 6, 7, 8]);
-    let lent = lent.ok_or("no keys")?;
+    let set: Spun<R> = Made::empty(rt, alloc, parallelism)?;
+    let right = takes_a_hundred(&rt, alloc, &set) && visits_a_hundred(&rt, &set);
+    let lent = lent(&rt, alloc, &set, &mut [1, 2, 3, 4, 5, 6, 7, 8]).ok_or("no keys")?;
     let are_in_order = are_in_order(&set, &lent);
-    Ok(right && are_in_order && set.given(&locks, alloc) == Some(lent))
+    Ok(right && are_in_order && given(&rt, alloc, set) == Some(lent))
 }
 
 #[test]
 fn forms_do_what_calls_do(rt: HostRuntime) -> Result<(), Fail> {
     for parallelism in [1, 2, 4] {
-        let right = agrees::<Spun<HostRuntime>>(rt, rt.alloc(), parallelism)?;
-        assert!(rt; right, "for {parallelism}");
+        assert!(rt; agrees(rt, rt.alloc(), parallelism)?, "for {parallelism}");
     }
     Ok(())
 }
 
 /// Whether a set of a hundred keys gives each once.
-fn gives_a_hundred<K: Whole<Locks: Threads + Sync>>(
-    locks: K::Locks,
+fn gives_a_hundred<R: Threads + Wait + Sync + Copy + Drop>(
+    rt: R,
     alloc: Global,
 ) -> Result<bool, Fail> {
     let keys = keys_below(alloc, 100)?;
-    let set = K::listed(locks, alloc, keys, true).ok_or("no set")?;
-    Ok(set.sums_in_pieces(&locks) == (100, 4_950))
+    let set: Spun<R> = Whole::listed(rt, alloc, keys, true).ok_or("no set")?;
+    Ok(given_up(&rt, set) == (100, 4_950))
 }
 
 /// Whether equal keys are put in once.
@@ -92,19 +146,19 @@ fn has_each_once<K: Whole>(locks: K::Locks, alloc: Global) -> Result<bool, Fail>
 }
 
 /// Whether an empty set refuses each form that nobody's data is handed to.
-fn refuses_nobody<K: Whole<Locks: Threads + Sync>>(
-    locks: K::Locks,
+fn refuses_nobody<R: Threads + Wait + Sync + Copy + Drop>(
+    rt: R,
     alloc: Global,
 ) -> Result<bool, Fail> {
-    let set = K::empty(locks, alloc, 2)?;
-    let right = set.visited(&locks, &mut []) == Err(NoThreadData);
-    let refused = set.share(&locks, keys_below(alloc, 16)?, &mut []);
+    let set: Spun<R> = Made::empty(rt, alloc, 2)?;
+    let right = visited(&rt, &set, &mut []) == Err(NoThreadData);
+    let refused = share(&rt, alloc, &set, 16, &mut []);
     Ok(right && refused == Err(ParExtendFault::NoThreadData) && set.is_bare(&mut 1))
 }
 
 #[test]
 fn keys_are_given_once_each(rt: HostRuntime) -> Result<(), Fail> {
-    assert!(rt; gives_a_hundred::<Spun<HostRuntime>>(rt, rt.alloc())?);
+    assert!(rt; gives_a_hundred(rt, rt.alloc())?);
     Ok(())
 }
 
@@ -116,6 +170,6 @@ fn equal_keys_are_put_in_once(rt: HostRuntime) -> Result<(), Fail> {
 
 #[test]
 fn nobodys_data_is_refused(rt: HostRuntime) -> Result<(), Fail> {
-    assert!(rt; refuses_nobody::<Spun<HostRuntime>>(rt, rt.alloc())?);
+    assert!(rt; refuses_nobody(rt, rt.alloc())?);
     Ok(())
 }

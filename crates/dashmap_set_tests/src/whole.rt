@@ -2,13 +2,10 @@
 
 use crate::sets::{Made, Spun};
 use dashmap::set::DashSet;
-use dashmap_parallel::{NoThreadData, ParExtendFault};
 use dashmap_table::SpreadState;
 use std::alloc::{AllocError, Global};
 use std::string::String;
 use std::sync::Wait;
-use std::sync::atomic::{AtomicU64, Ordering};
-use std::thread::Threads;
 
 /// A set that is made of a list, or used as a whole.
 pub trait Whole: Made<Party = u32, Memory = Global> {
@@ -36,38 +33,9 @@ pub trait Whole: Made<Party = u32, Memory = Global> {
 
     /// How many keys there are, and what they add up to, one after another.
     fn sums(self) -> (u64, u64);
-
-    /// The same of the parallel form that gives the keys.
-    fn sums_in_pieces<T: Threads + Sync>(self, rt: &T) -> (u64, u64);
-
-    /// The keys in the order of that form.
-    fn given<T: Threads + Sync>(self, rt: &T, alloc: Global) -> Option<Vec<u64>>;
-
-    /// How many keys the form that lends them visits with the data of so many threads, and what they add up to.
-    fn visited<T: Threads + Sync>(
-        &self,
-        rt: &T,
-        parties: &mut [u32],
-    ) -> Result<(u64, u64), NoThreadData>;
-
-    /// The keys in the order of that form.
-    fn lent_all<T: Threads + Sync>(
-        &self,
-        rt: &T,
-        alloc: Global,
-        parties: &mut [u32],
-    ) -> Option<Vec<u64>>;
-
-    /// Puts the keys of a list in by the form that shares the set.
-    fn share<T: Threads + Sync>(
-        &self,
-        rt: &T,
-        keys: Vec<u64>,
-        parties: &mut [u32],
-    ) -> Result<(), ParExtendFault>;
 }
 
-impl<R: Wait + Sync + Copy + Drop> Whole for Spun<R> {
+impl<R: Wait + Copy + Drop> Whole for Spun<R> {
     fn listed(rt: R, alloc: Global, keys: Vec<u64>, in_pieces: bool) -> Option<Spun<R>> {
         if in_pieces {
             DashSet::from_par_iter(alloc, keys, SpreadState, 2, rt).ok()
@@ -127,52 +95,5 @@ impl<R: Wait + Sync + Copy + Drop> Whole for Spun<R> {
             sum = sum.wrapping_add(key);
         }
         (count, sum)
-    }
-
-    fn sums_in_pieces<T: Threads + Sync>(self, rt: &T) -> (u64, u64) {
-        let (count, sum) = (AtomicU64::new(0), AtomicU64::new(0));
-        self.into_par_iter().for_each(rt, |key: u64| {
-            count.fetch_add(1, Ordering::SeqCst);
-            sum.fetch_add(key, Ordering::SeqCst);
-        });
-        (count.load(Ordering::SeqCst), sum.load(Ordering::SeqCst))
-    }
-
-    fn given<T: Threads + Sync>(self, rt: &T, alloc: Global) -> Option<Vec<u64>> {
-        self.into_par_iter()
-            .map_collect(rt, alloc, |key: u64| key)
-            .ok()
-    }
-
-    fn visited<T: Threads + Sync>(
-        &self,
-        rt: &T,
-        parties: &mut [u32],
-    ) -> Result<(u64, u64), NoThreadData> {
-        let (count, sum) = (AtomicU64::new(0), AtomicU64::new(0));
-        self.par_iter(parties)?.for_each(rt, |key: &u64| {
-            count.fetch_add(1, Ordering::SeqCst);
-            sum.fetch_add(*key, Ordering::SeqCst);
-        });
-        Ok((count.load(Ordering::SeqCst), sum.load(Ordering::SeqCst)))
-    }
-
-    fn lent_all<T: Threads + Sync>(
-        &self,
-        rt: &T,
-        alloc: Global,
-        parties: &mut [u32],
-    ) -> Option<Vec<u64>> {
-        let keys = self.par_iter(parties).ok()?;
-        keys.map_collect(rt, alloc, |key: &u64| *key).ok()
-    }
-
-    fn share<T: Threads + Sync>(
-        &self,
-        rt: &T,
-        keys: Vec<u64>,
-        parties: &mut [u32],
-    ) -> Result<(), ParExtendFault> {
-        self.par_extend_shared(rt, keys, parties)
     }
 }

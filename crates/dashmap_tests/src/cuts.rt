@@ -1,22 +1,62 @@
 //! Which shards each piece visits, and in which order.
 
 use crate::noted::{NotedLock, Numbers};
-use crate::shared::Shared;
 use dashmap_map::{DashMap, NewFault};
-use dashmap_parallel::{NoThreadData, ParExtendFault};
+use dashmap_parallel::{NoThreadData, ParExtendFault, ParallelMap, par_extend_shared};
 use std::alloc::{AllocError, Global};
 use std::hash::RandomState;
 use std::random::RandomSource;
 use std::sync::Wait;
-use std::sync::atomic::AtomicU64;
+use std::sync::atomic::{AtomicU64, Ordering};
 use std::test::Fail;
 use std::thread::Threads;
 
-/// An empty map of eight shards, whose locks have the numbers 1 to 8 and note who took them.
-fn eight<R: RandomSource + Copy + Drop>(
-    rt: R,
+/// A map whose locks note who took them.
+type Noted<R> = DashMap<u64, u64, RandomState, NotedLock<R>>;
+
+/// How many pairs the form that looks visits, and what their keys and values add up to.
+fn visited<R: Threads + Wait + Sync + Drop>(
+    rt: &R,
+    map: &Noted<R>,
+    parties: &mut [u64],
+) -> Result<(u64, u64), NoThreadData> {
+    let (count, sum) = (AtomicU64::new(0), AtomicU64::new(0));
+    map.par_iter(parties)?
+        .for_each(rt, |key: &u64, value: &u64| {
+            count.fetch_add(1, Ordering::SeqCst);
+            sum.fetch_add(key.wrapping_add(*value), Ordering::SeqCst);
+        });
+    Ok((count.load(Ordering::SeqCst), sum.load(Ordering::SeqCst)))
+}
+
+/// Adds its key to each value by the form that writes.
+fn written<R: Threads + Wait + Sync + Drop>(
+    rt: &R,
+    map: &Noted<R>,
+    parties: &mut [u64],
+) -> Result<(), NoThreadData> {
+    map.par_iter_mut_shared(parties)?.for_each(
+        rt,
+        |key: &u64, value: &mut u64| *value = value.wrapping_add(*key),
+    );
+    Ok(())
+}
+
+/// The pairs in the order of the form that looks.
+fn collected<R: Threads + Wait + Sync + Drop>(
+    rt: &R,
     alloc: Global,
-) -> Result<DashMap<u64, u64, RandomState, NotedLock<R>>, NewFault> {
+    map: &Noted<R>,
+    parties: &mut [u64],
+) -> Option<Vec<(u64, u64)>> {
+    let pairs = map.par_iter(parties).ok()?;
+    pairs
+        .map_collect(rt, alloc, |key: &u64, value: &u64| (*key, *value))
+        .ok()
+}
+
+/// An empty map of eight shards, whose locks have the numbers 1 to 8 and note who took them.
+fn eight<R: RandomSource + Copy + Drop>(rt: R, alloc: Global) -> Result<Noted<R>, NewFault> {
     let next = AtomicU64::new(1);
     DashMap::with_shard_amount(alloc, 8, Numbers { rt, next: &next })
 }
@@ -40,21 +80,21 @@ enum Trial {
 }
 
 /// Whether it is cut in pieces as equal as can be.
-fn is_cut<M: Shared<Party = u64>, T: Threads + Sync>(map: &M, rt: &T, alloc: Global) -> bool {
+fn is_cut<R: Threads + Wait + Sync + Copy + Drop>(rt: &R, map: &Noted<R>, alloc: Global) -> bool {
     let mut parties = [0u64; 3];
-    let mut right = map.visited(rt, &mut parties) == Ok((0, 0)) && parties == [123, 456, 78];
+    let mut right = visited(rt, map, &mut parties) == Ok((0, 0)) && parties == [123, 456, 78];
     let mut parties = [0u64; 3];
-    let answers = map.collected(rt, alloc, &mut parties);
+    let answers = collected(rt, alloc, map, &mut parties);
     right &= answers.is_some_and(|answers| answers.is_empty()) && parties == [123, 456, 78];
     let mut parties = [0u64; 5];
-    right && map.written(rt, &mut parties) == Ok(()) && parties == [12, 34, 56, 7, 8]
+    right && written(rt, map, &mut parties) == Ok(()) && parties == [12, 34, 56, 7, 8]
 }
 
 /// The shards that each of three threads is to visit to put these pairs in, in their order.
-fn expected<M: Shared>(map: &M, pairs: &[(u64, u64)]) -> [u64; 3] {
+fn expected<R: Drop>(map: &Noted<R>, pairs: &[(u64, u64)]) -> [u64; 3] {
     let mut expected = [0u64; 3];
     for (key, _) in pairs {
-        let shard = map.shard_of(*key);
+        let shard = map.determine_map(key);
         let piece = if shard < 6 { shard / 3 } else { 2 };
         let digits = expected[piece].wrapping_mul(10);
         expected[piece] = digits.wrapping_add(shard as u64).wrapping_add(1);
@@ -63,65 +103,66 @@ fn expected<M: Shared>(map: &M, pairs: &[(u64, u64)]) -> [u64; 3] {
 }
 
 /// Whether the keys below sixteen were there, each with its double. They are gone then.
-fn had_doubles<M: Shared<Party = u64>>(map: &M) -> bool {
+fn had_doubles<R: Wait + Drop>(map: &Noted<R>) -> bool {
     let mut right = true;
     for key in 0..16 {
-        right &= map.take(key, &mut 0) == Some((key, key * 2));
+        right &= map.remove(&key, &mut 0) == Some((key, key * 2));
     }
     right
 }
 
 /// Whether each pair is put in by the thread of its shard, each thread's in their order.
-fn is_dealt<M: Shared<Party = u64>, T: Threads + Sync>(
-    map: &M,
-    rt: &T,
+fn is_dealt<R: Threads + Wait + Sync + Copy + Drop>(
+    rt: &R,
+    map: &Noted<R>,
     alloc: Global,
 ) -> Result<bool, AllocError> {
     let pairs = doubles(alloc)?;
     let expected = expected(map, &pairs);
     let mut parties = [0u64; 3];
-    let right = map.take_all(rt, pairs, &mut parties) == Ok(());
+    let right = par_extend_shared(map, rt, pairs, &mut parties) == Ok(());
     Ok(right && parties == expected && had_doubles(map))
 }
 
 /// Whether the later of two pairs of one key stays.
-fn keeps_the_later<M: Shared<Party = u64>, T: Threads + Sync>(
-    map: &M,
-    rt: &T,
+fn keeps_the_later<R: Threads + Wait + Sync + Copy + Drop>(
+    rt: &R,
+    map: &Noted<R>,
     alloc: Global,
 ) -> Result<bool, AllocError> {
     let pairs = vec![in alloc; (1u64, 1u64), (1, 2)]?;
-    let right = map.take_all(rt, pairs, &mut [0u64; 3]) == Ok(());
-    Ok(match map.collected(rt, alloc, &mut [0u64; 3]) {
+    let right = par_extend_shared(map, rt, pairs, &mut [0u64; 3]) == Ok(());
+    Ok(match collected(rt, alloc, map, &mut [0u64; 3]) {
         Some(pairs) => right && pairs.as_slice() == [(1, 2)].as_slice(),
         None => false,
     })
 }
 
 /// Whether each form is refused that nobody's data is handed to.
-fn refuses_nobody<M: Shared<Party = u64>, T: Threads + Sync>(
-    map: &M,
-    rt: &T,
+fn refuses_nobody<R: Threads + Wait + Sync + Copy + Drop>(
+    rt: &R,
+    map: &Noted<R>,
     alloc: Global,
 ) -> Result<bool, AllocError> {
-    let mut right = map.visited(rt, &mut []) == Err(NoThreadData);
-    right &= map.written(rt, &mut []) == Err(NoThreadData);
-    right &= map.take_all(rt, doubles(alloc)?, &mut []) == Err(ParExtendFault::NoThreadData);
-    Ok(right && map.is_bare(&mut 0))
+    let mut right = visited(rt, map, &mut []) == Err(NoThreadData);
+    right &= written(rt, map, &mut []) == Err(NoThreadData);
+    right &= par_extend_shared(map, rt, doubles(alloc)?, &mut [])
+        == Err(ParExtendFault::NoThreadData);
+    Ok(right && map.is_empty(&mut 0))
 }
 
 /// Tries something on a map.
-fn is_so<M: Shared<Party = u64>, T: Threads + Sync>(
-    map: &M,
-    rt: &T,
+fn is_so<R: Threads + Wait + Sync + Copy + Drop>(
+    rt: &R,
+    map: &Noted<R>,
     alloc: Global,
     trial: Trial,
 ) -> Result<bool, AllocError> {
     match trial {
-        Trial::Cuts => Ok(is_cut(map, rt, alloc)),
-        Trial::Pieces => is_dealt(map, rt, alloc),
-        Trial::LaterPair => keeps_the_later(map, rt, alloc),
-        Trial::Nobody => refuses_nobody(map, rt, alloc),
+        Trial::Cuts => Ok(is_cut(rt, map, alloc)),
+        Trial::Pieces => is_dealt(rt, map, alloc),
+        Trial::LaterPair => keeps_the_later(rt, map, alloc),
+        Trial::Nobody => refuses_nobody(rt, map, alloc),
     }
 }
 
@@ -132,7 +173,7 @@ fn is_so_on_new<R: RandomSource + Wait + Threads + Copy + Sync + Drop>(
     trial: Trial,
 ) -> Result<bool, Fail> {
     let map = eight(rt, alloc)?;
-    Ok(is_so(&map, &rt, alloc, trial)?)
+    Ok(is_so(&rt, &map, alloc, trial)?)
 }
 
 #[test]

@@ -26,6 +26,4 @@ mod pieces;
 #[cfg(test)]
 mod shards;
 #[cfg(test)]
-mod shared;
-#[cfg(test)]
 mod views;

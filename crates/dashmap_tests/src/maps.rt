@@ -6,7 +6,7 @@
 use dashmap_map::DashMap;
 use dashmap_map::parts::shard_locks;
 use dashmap_plain::clones::{CloneMap, CloneView};
-use dashmap_plain::{Plain, ReadOnlyView, Unlocked, from_par_iter, par_extend};
+use dashmap_plain::{Plain, ReadOnlyView, from_par_iter, par_extend};
 use dashmap_table::{MapFault, Shard, SpreadState};
 use dashmap_view::{OwningIter, parallel as pieces};
 use lock_api_spin::PackedLock;
@@ -14,8 +14,6 @@ use std::alloc::{Allocator, Global};
 use std::hash::BuildHasher;
 use std::string::String;
 use std::sync::Wait;
-use std::sync::atomic::{AtomicU64, Ordering};
-use std::thread::Threads;
 
 /// A map in some memory, whose locks are words that are tried again and again.
 pub type MapIn<R, A> = DashMap<u64, u64, SpreadState, PackedLock<R>, A>;
@@ -95,13 +93,6 @@ pub trait Whole: Numbers<Memory = Global> {
     /// Puts the pairs of a list in by the parallel form, and tells whether none was refused.
     fn take(&mut self, pairs: Vec<(u64, u64)>) -> bool;
 
-    /// Writes into each value its key so many times by the parallel form, and answers how many there were.
-    fn write<T: Threads + Sync>(&mut self, rt: &T, times: u64) -> u64;
-
-    /// The same map, once each value was written twice by the parallel forms of a map without locks: then it is the
-    /// double of its key.
-    fn rewritten<T: Threads + Sync>(self, rt: &T) -> Self;
-
     /// The view, or the number of the fault and the map.
     fn into_view(self) -> Result<Self::View, (u16, Self)>;
 
@@ -119,7 +110,7 @@ pub trait Whole: Numbers<Memory = Global> {
 }
 
 /// What such a map becomes.
-type ViewOf<R> = ReadOnlyView<u64, u64, SpreadState, PackedLock<R>>;
+pub type ViewOf<R> = ReadOnlyView<u64, u64, SpreadState, PackedLock<R>>;
 
 impl<R: Wait + Copy + Drop> Whole for Map<R> {
     type View = ViewOf<R>;
@@ -154,29 +145,6 @@ impl<R: Wait + Copy + Drop> Whole for Map<R> {
 
     fn take(&mut self, pairs: Vec<(u64, u64)>) -> bool {
         par_extend(self, pairs) == Ok(())
-    }
-
-    fn write<T: Threads + Sync>(&mut self, rt: &T, times: u64) -> u64 {
-        let calls = AtomicU64::new(0);
-        self.par_iter_mut()
-            .for_each(rt, |key: &u64, value: &mut u64| {
-                calls.fetch_add(1, Ordering::SeqCst);
-                *value = key.wrapping_mul(times);
-            });
-        calls.load(Ordering::SeqCst)
-    }
-
-    fn rewritten<T: Threads + Sync>(self, rt: &T) -> Map<R> {
-        let mut open = Unlocked::of(self);
-        open.par_write(
-            rt,
-            |key: &u64, value: &mut u64| *value = key.wrapping_mul(3),
-        );
-        open.par_write(
-            rt,
-            |key: &u64, value: &mut u64| *value = value.wrapping_sub(*key),
-        );
-        open.into_map()
     }
 
     fn into_view(self) -> Result<ViewOf<R>, (u16, Map<R>)> {
@@ -231,9 +199,6 @@ pub trait View: Sized + Drop {
 
     /// The values that one lends.
     fn values_in_order(&self, alloc: Global) -> Option<Vec<u64>>;
-
-    /// The values in the order of the parallel form.
-    fn collected<T: Threads + Sync>(&self, rt: &T, alloc: Global) -> Option<Vec<u64>>;
 
     /// What is printed.
     fn text(&self, alloc: Global) -> Option<String>;
@@ -293,12 +258,6 @@ impl<R: Wait + Copy + Drop> View for ViewOf<R> {
             values.push(*value).ok()?;
         }
         Some(values)
-    }
-
-    fn collected<T: Threads + Sync>(&self, rt: &T, alloc: Global) -> Option<Vec<u64>> {
-        self.par_iter()
-            .map_collect(rt, alloc, |_: &u64, value: &u64| *value)
-            .ok()
     }
 
     fn text(&self, alloc: Global) -> Option<String> {

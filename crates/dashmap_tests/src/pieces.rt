@@ -1,10 +1,11 @@
 //! Parallel forms of what a map becomes, and plain shards that are extended.
 
-use crate::maps::{Map, View, Whole, first_wrong, has_all, map_of, view_of};
-use dashmap_plain::{ExtendShards, par_extend_shards};
+use crate::maps::{Map, Numbers, View, ViewOf, Whole, first_wrong, has_all, map_of, view_of};
+use dashmap_plain::{ExtendShards, Plain, Unlocked, par_extend_shards};
 use dashmap_table::{Shards, SpreadState};
 use dashmap_view::parallel::OwningIter;
 use std::alloc::Global;
+use std::sync::Wait;
 use std::sync::atomic::{AtomicU64, Ordering};
 use std::thread::Threads;
 
@@ -18,15 +19,23 @@ fn sums<T: Threads + Sync>(rt: &T, pairs: OwningIter<u64, u64>) -> (u64, u64) {
     (calls.load(Ordering::SeqCst), sum.load(Ordering::SeqCst))
 }
 
-/// Whether a view of a hundred pairs answers in pieces what its walk does, and gives up its pairs.
-fn answers_in_pieces<M: Whole<Runtime: Threads + Sync>>(
-    rt: M::Runtime,
+/// The values of a view in the order of its parallel form.
+fn collected<R: Threads + Wait + Sync + Drop>(
+    rt: &R,
     alloc: Global,
-) -> Option<bool> {
-    let view = view_of::<M>(rt, alloc, 100)?;
-    let values = view.collected(&rt, alloc)?;
+    view: &ViewOf<R>,
+) -> Option<Vec<u64>> {
+    view.par_iter()
+        .map_collect(rt, alloc, |_: &u64, value: &u64| *value)
+        .ok()
+}
+
+/// Whether a view of a hundred pairs answers in pieces what its walk does, and gives up its pairs.
+fn answers_in_pieces<R: Threads + Wait + Sync + Copy + Drop>(rt: R, alloc: Global) -> Option<bool> {
+    let view = view_of::<Map<R>>(rt, alloc, 100)?;
+    let values = collected(&rt, alloc, &view)?;
     let are_walked = values.len() == 100 && values == view.values_in_order(alloc)?;
-    Some(are_walked && sums(&rt, view.into_pieces()) == (100, 14_850))
+    Some(are_walked && sums(&rt, View::into_pieces(view)) == (100, 14_850))
 }
 
 /// Whether a map of a hundred pairs gives them up in pieces.
@@ -35,39 +44,71 @@ fn is_given_up<M: Whole<Runtime: Threads + Sync>>(rt: M::Runtime, alloc: Global)
     Some(sums(&rt, map.into_pieces()) == (100, 14_850))
 }
 
-/// Whether a map that was taken apart has what was written meanwhile.
-fn is_rewritten<M: Whole<Runtime: Threads + Sync>>(rt: M::Runtime, alloc: Global) -> Option<bool> {
-    let map: M = map_of(rt, alloc, 100)?;
-    Some(has_all(&map.rewritten(&rt), 100))
+/// The same map, once each value was written twice by the parallel forms of a map without locks: then it is the double
+/// of its key.
+fn rewritten<R: Threads + Wait + Sync + Drop>(rt: &R, map: Map<R>) -> Map<R> {
+    let mut open = Unlocked::of(map);
+    open.par_write(
+        rt,
+        |key: &u64, value: &mut u64| *value = key.wrapping_mul(3),
+    );
+    open.par_write(
+        rt,
+        |key: &u64, value: &mut u64| *value = value.wrapping_sub(*key),
+    );
+    open.into_map()
 }
 
-/// Whether each of a hundred values of a map is written once.
-fn is_written<M: Whole<Runtime: Threads + Sync>>(rt: M::Runtime, alloc: Global) -> Option<bool> {
-    let mut map: M = map_of(rt, alloc, 100)?;
-    let mut right = map.write(&rt, 3) == 100 && map.count() == 100;
+/// Whether a map that was taken apart has what was written meanwhile.
+fn is_rewritten<R: Threads + Wait + Sync + Copy + Drop>(rt: R, alloc: Global) -> Option<bool> {
+    let map = map_of(rt, alloc, 100)?;
+    Some(has_all(&rewritten(&rt, map), 100))
+}
+
+/// Writes into each value of a map its key so many times by the parallel form, and answers how many there were.
+fn write<R: Threads + Wait + Sync + Drop>(rt: &R, map: &mut Map<R>, times: u64) -> u64 {
+    let calls = AtomicU64::new(0);
+    map.par_iter_mut()
+        .for_each(rt, |key: &u64, value: &mut u64| {
+            calls.fetch_add(1, Ordering::SeqCst);
+            *value = key.wrapping_mul(times);
+        });
+    calls.load(Ordering::SeqCst)
+}
+
+/// Whether a map of a hundred pairs has three times its key at each.
+fn has_triples<M: Numbers>(map: &M) -> bool {
+    let mut right = map.count() == 100;
     for key in 0..100u64 {
         right &= map.value(key) == Some(key.wrapping_mul(3));
     }
-    Some(right)
+    right
+}
+
+/// Whether each of a hundred values of a map is written once.
+fn is_written<R: Threads + Wait + Sync + Copy + Drop>(rt: R, alloc: Global) -> Option<bool> {
+    let mut map = map_of(rt, alloc, 100)?;
+    Some(write(&rt, &mut map, 3) == 100 && has_triples(&map))
 }
 
 /// Whether a map takes a pair between two times that its values are written.
-fn takes_a_pair<M: Whole<Runtime: Threads + Sync>>(rt: M::Runtime, alloc: Global) -> Option<bool> {
-    let mut map: M = map_of(rt, alloc, 20)?;
-    let mut right = map.write(&rt, 0) == 20 && map.put(20, 40) == Some(None);
-    right &= map.write(&rt, 2) == 21;
+fn takes_a_pair<R: Threads + Wait + Sync + Copy + Drop>(rt: R, alloc: Global) -> Option<bool> {
+    let mut map = map_of(rt, alloc, 20)?;
+    let mut right = write(&rt, &mut map, 0) == 20 && map.put(20, 40) == Some(None);
+    right &= write(&rt, &mut map, 2) == 21;
     Some(right && has_all(&map, 21))
 }
 
 /// Whether a map has the later of two pairs of one key, made by one thread or by the parallel form.
-fn keeps_the_later<M: Whole<Runtime: Threads + Sync>>(
-    rt: M::Runtime,
+fn keeps_the_later<R: Threads + Wait + Sync + Copy + Drop>(
+    rt: R,
     alloc: Global,
     in_pieces: bool,
 ) -> Option<bool> {
     let pairs = vec![in alloc; (1u64, 1u64), (1, 2)].ok()?;
-    let view = M::listed(rt, alloc, pairs, in_pieces)?.into_view().ok()?;
-    Some(view.collected(&rt, alloc)?.as_slice() == [2].as_slice())
+    let map: Map<R> = Whole::listed(rt, alloc, pairs, in_pieces)?;
+    let view = map.into_view().ok()?;
+    Some(collected(&rt, alloc, &view)?.as_slice() == [2].as_slice())
 }
 
 /// Whether a list extends a map in its order.
@@ -103,7 +144,7 @@ fn what_a_map_becomes_answers_in_pieces(rt: HostRuntime) {
     let wrong = first_wrong(&[
         (
             "a view answers as one thread would",
-            answers_in_pieces::<Map<HostRuntime>>(rt, rt.alloc()),
+            answers_in_pieces(rt, rt.alloc()),
         ),
         (
             "a map is given up",
@@ -111,16 +152,13 @@ fn what_a_map_becomes_answers_in_pieces(rt: HostRuntime) {
         ),
         (
             "each value of a map that is taken apart is written",
-            is_rewritten::<Map<HostRuntime>>(rt, rt.alloc()),
+            is_rewritten(rt, rt.alloc()),
         ),
         (
             "each value of a map that is lent is written",
-            is_written::<Map<HostRuntime>>(rt, rt.alloc()),
+            is_written(rt, rt.alloc()),
         ),
-        (
-            "a map is lent and used again",
-            takes_a_pair::<Map<HostRuntime>>(rt, rt.alloc()),
-        ),
+        ("a map is lent and used again", takes_a_pair(rt, rt.alloc())),
     ]);
     assert!(rt; wrong.is_none(), "{wrong:?}");
 }
@@ -130,11 +168,11 @@ fn maps_and_plain_shards_take_lists(rt: HostRuntime) {
     let wrong = first_wrong(&[
         (
             "a later pair of an equal key replaces the value",
-            keeps_the_later::<Map<HostRuntime>>(rt, rt.alloc(), false),
+            keeps_the_later(rt, rt.alloc(), false),
         ),
         (
             "so does one of several threads",
-            keeps_the_later::<Map<HostRuntime>>(rt, rt.alloc(), true),
+            keeps_the_later(rt, rt.alloc(), true),
         ),
         (
             "a map is extended by a list in its order",
