@@ -153,11 +153,6 @@ fn notes_that_belong_together_are_merged_by_stamp_and_shard(rt: HostRuntime) -> 
     Ok(())
 }
 
-#[test]
-fn nothing_at_all_is_an_empty_list(rt: HostRuntime) {
-    assert!(rt; counted(rt.alloc(), "||", "||") == Ok(0));
-}
-
 const WAYS: &[Row] = &[
     ("aa|c|", "ab|c|", Err(GatherFault::StampOrder)),
     ("ab|c|", "a|c|", Err(GatherFault::NotInLog)),
@@ -167,21 +162,17 @@ const WAYS: &[Row] = &[
     ("a|ce|", "ae|c|", Err(GatherFault::WrongShard)),
     ("ah|c|", "ah|c|", Err(GatherFault::WrongHash)),
     ("ar|c|", "ar|c|", Err(GatherFault::WrongReply)),
+    // nothing at all is an empty list
+    ("||", "||", Ok(0)),
+    // a replacement needs the value that was seen
+    ("12345||", "12345||", Ok(5)),
+    // three histories are a wrong amount where there is an entry
+    ("a|||", "a||", Err(GatherFault::WrongShard)),
+    ("|||", "||", Ok(0)),
 ];
 
 #[test]
 fn each_way_of_doctoring_has_its_name(rt: HostRuntime) {
     let wrong = wrong_row(rt.alloc(), WAYS);
     assert!(rt; wrong.is_none(), "row {wrong:?}");
-}
-
-#[test]
-fn a_replacement_needs_the_value_that_was_seen(rt: HostRuntime) {
-    assert!(rt; counted(rt.alloc(), "12345||", "12345||") == Ok(5));
-}
-
-#[test]
-fn three_histories_are_a_wrong_amount_where_there_is_an_entry(rt: HostRuntime) {
-    assert!(rt; counted(rt.alloc(), "a|||", "a||") == Err(GatherFault::WrongShard));
-    assert!(rt; counted(rt.alloc(), "|||", "||") == Ok(0));
 }
