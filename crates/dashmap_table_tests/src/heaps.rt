@@ -4,7 +4,7 @@ use crate::calls::{Answer, Call, Hashes, Numbers, make};
 use dashmap_calls::workload;
 use dashmap_table::{MapFault, Shard, Shards};
 use linked_list_allocator::LocalHeap;
-use std::alloc::{Allocator, Global};
+use std::alloc::Allocator;
 use std::hash::{BuildHasherDefault, FoldHasher};
 use std::test::Fail;
 
@@ -177,15 +177,10 @@ fn shards_are_refused_for_their_amount_first(rt: HostRuntime) -> Result<(), Fail
     Ok(())
 }
 
-/// Whether the small run finds what it put in.
-fn runs(alloc: Global) -> Result<bool, Fail> {
-    let sums = workload::run(alloc, workload::Call::All, 100, 2)?;
-    let right = sums.filled == 100 && sums.hit == 100 && sums.missed == 100;
-    Ok(right && sums.inserted == 100 && sums.removed == 100)
-}
-
 #[test]
 fn the_small_run_finds_what_it_put_in(rt: HostRuntime) -> Result<(), Fail> {
-    assert!(rt; runs(rt.alloc())?);
+    let sums = workload::run(rt.alloc(), workload::Call::All, 100, 2)?;
+    assert!(rt; sums.filled == 100 && sums.hit == 100 && sums.missed == 100);
+    assert!(rt; sums.inserted == 100 && sums.removed == 100);
     Ok(())
 }

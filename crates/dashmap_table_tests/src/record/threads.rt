@@ -243,17 +243,6 @@ const WAYS: &[(Way, GatherFault)] = &[
     (Way::Short, GatherFault::NotInLog),
 ];
 
-/// How many ways of doctoring are named as their rows say, up to the first that isn't.
-fn named(alloc: Global, notes: &(Lists, Lists), found: &Entry) -> Result<usize, AllocError> {
-    for row in 0..WAYS.len() {
-        let (way, fault) = WAYS[row];
-        if doctored(alloc, notes, found, way)? != Some(fault) {
-            return Ok(row);
-        }
-    }
-    Ok(WAYS.len())
-}
-
 /// An entry that stands in a log.
 fn found(logs: &Lists) -> Option<Entry> {
     logs.get(3)?.get(250).copied()
@@ -263,7 +252,9 @@ fn found(logs: &Lists) -> Option<Entry> {
 fn what_is_doctored_is_named(rt: HostRuntime) -> Result<(), Fail> {
     let notes = recorded(rt, rt.alloc(), 500)?;
     let found = found(&notes.1).ok_or("no entry")?;
-    let named = named(rt.alloc(), &notes, &found)?;
-    assert!(rt; named == WAYS.len(), "row {named}");
+    for (row, (way, fault)) in WAYS.iter().enumerate() {
+        let named = doctored(rt.alloc(), &notes, &found, *way)?;
+        assert!(rt; named == Some(*fault), "row {row}");
+    }
     Ok(())
 }
