@@ -1,17 +1,11 @@
 //! Buckets of keys: how many there are, what a growth keeps, and what an open section keeps out.
 
-use crate::script::{Answer, BUSY, Call, Line, WRONG, follow, follow_of, outcome};
-use parking_lot_core::{DEFAULT_PARK_TOKEN, Lot, LotFault, RequeueOp, ThreadStatus, UnparkToken};
+use crate::script::{
+    Answer, BUSY, Call, FULL, INSIDE, IS, Line, Play, WAITS, WRONG, follow_each, play, took,
+};
+use parking_lot_core::{DEFAULT_PARK_TOKEN, Lot, LotFault, RequeueOp, UnparkToken};
 use refusing_heap::{Case, Heap, Refusal, RefusingHeap, Said, Seen, make_in_turn};
 use std::test::Fail;
-
-const WAITS: Answer = Answer::Ended(None);
-
-const IS: Answer = Answer::Is(true);
-
-const INSIDE: Answer = Answer::Stands(Some(ThreadStatus::InSection));
-
-const FULL: Answer = Answer::Refused(LotFault::TooManyThreads);
 
 /// Registers so many threads, retires some of them, and answers how many buckets there are.
 fn buckets_of(lot: &mut Lot, threads: usize, retired: usize) -> Result<usize, LotFault> {
@@ -50,130 +44,138 @@ fn two_numbers_are_of_one_thread(rt: HostRuntime) -> Result<(), Fail> {
 }
 
 /// Threads 0 and 1 wait under key 3, and thread 2 under key 19, which is of the same bucket out of 16.
-const ONE_BUCKET: [Line; 3] = [
+const ONE_BUCKET: &[Line] = &[
     (Call::Park(0, 3), WAITS),
     (Call::Park(1, 3), WAITS),
     (Call::Park(2, 19), WAITS),
 ];
 
-#[test]
-fn lists_stay_as_buckets_grow(rt: HostRuntime) -> Result<(), Fail> {
-    let script = [
-        (Call::Buckets, Answer::Number(16)),
-        (Call::Register, Answer::Number(5)),
-        (Call::Buckets, Answer::Number(32)),
-        (Call::IsQueue(3, &[0, 1]), IS),
-        (Call::IsQueue(19, &[2]), IS),
-        (Call::UnparkOne(3, 1), Answer::Unparked(outcome(1, 0, true))),
-        (Call::IsQueue(3, &[1]), IS),
-        (Call::UnparkAll(19, 1), Answer::Number(1)),
-        (Call::Enter(3, 3), Answer::Done),
-        (Call::Enter(4, 19), Answer::Done),
-        (Call::Enter(5, 35), BUSY),
-    ];
-    follow(&rt, 5, &ONE_BUCKET, &script)
-}
+/// Lists stay as buckets grow.
+const GROWN: &[Line] = &[
+    (Call::Buckets, Answer::Number(16)),
+    (Call::Register, Answer::Number(5)),
+    (Call::Buckets, Answer::Number(32)),
+    (Call::IsQueue(3, &[0, 1]), IS),
+    (Call::IsQueue(19, &[2]), IS),
+    (Call::UnparkOne(3, 1), took!(1, 0, true)),
+    (Call::IsQueue(3, &[1]), IS),
+    (Call::UnparkAll(19, 1), Answer::Number(1)),
+    (Call::Enter(3, 3), Answer::Done),
+    (Call::Enter(4, 19), Answer::Done),
+    (Call::Enter(5, 35), BUSY),
+];
+
+/// A section keeps others out of its bucket.
+const KEPT_OUT: &[Line] = &[
+    (Call::Enter(3, 3), Answer::Done),
+    (Call::Enter(4, 19), BUSY),
+    (Call::Park(4, 19), BUSY),
+    (Call::UnparkOne(19, 1), BUSY),
+    (Call::UnparkAll(19, 1), BUSY),
+    (Call::UnparkFilter(19, 1), BUSY),
+    (Call::ComeBack(2, 19), BUSY),
+    (Call::Enter(4, 4), Answer::Done),
+    (Call::Status(3), INSIDE),
+    (Call::Status(4), INSIDE),
+    (Call::TakeNext(3), Answer::Taken(Some(0))),
+    (Call::Append(4, false), Answer::Done),
+    (Call::Store(3, 1), Answer::Done),
+    (Call::Leave(3), Answer::Done),
+    (Call::UnparkAll(19, 1), Answer::Number(1)),
+    (Call::UnparkAll(4, 1), BUSY),
+    (Call::Leave(4), Answer::Done),
+    (Call::UnparkAll(4, 1), Answer::Number(1)),
+    (Call::IsQueue(3, &[1]), IS),
+];
+
+/// Buckets grow in no section.
+const GROWN_LATER: &[Line] = &[
+    (Call::Enter(3, 4), Answer::Done),
+    (Call::Register, Answer::Number(4)),
+    (Call::Register, BUSY),
+    (Call::Status(5), Answer::Stands(None)),
+    (Call::Buckets, Answer::Number(16)),
+    (Call::Leave(3), Answer::Done),
+    (Call::Register, Answer::Number(5)),
+    (Call::Buckets, Answer::Number(32)),
+    (Call::Enter(3, 4), Answer::Done),
+    (Call::Register, Answer::Number(6)),
+    (Call::Register, Answer::Number(7)),
+    (Call::Register, FULL),
+];
+
+/// That there are too many threads is told first.
+const FULL_FIRST: &[Line] = &[
+    (Call::Enter(3, 4), Answer::Done),
+    (Call::Register, FULL),
+    (Call::Leave(3), Answer::Done),
+    (Call::Register, FULL),
+];
+
+/// A requeue enters two buckets.
+const TWO_ENTERED: &[Line] = &[
+    (Call::Enter(3, 4), Answer::Done),
+    (Call::Requeue(3, 4, RequeueOp::RequeueAll), BUSY),
+    (Call::Requeue(3, 20, RequeueOp::RequeueAll), BUSY),
+    (Call::Requeue(20, 3, RequeueOp::RequeueAll), BUSY),
+    (Call::RequeueCounting(3, 20, RequeueOp::RequeueAll), BUSY),
+    (Call::IsQueue(3, &[0, 1]), IS),
+    (
+        Call::Requeue(3, 19, RequeueOp::RequeueAll),
+        took!(0, 2, false),
+    ),
+    (Call::IsQueue(3, &[]), IS),
+    (Call::IsQueue(19, &[2, 0, 1]), IS),
+];
+
+/// Thread 1 was moved from key 5 to key 3, and taken there, before its deadline.
+const MOVED_AND_TAKEN: &[Line] = &[
+    (Call::ParkTimed(1, 5), WAITS),
+    (
+        Call::Requeue(5, 3, RequeueOp::RequeueOne),
+        took!(0, 1, false),
+    ),
+    (Call::Enter(0, 3), Answer::Done),
+    (Call::TakeMarked(0), Answer::Taken(Some(1))),
+    (Call::Store(0, 4), Answer::Done),
+    (Call::Leave(0), Answer::Done),
+    (Call::Deadline(1), Answer::Done),
+];
+
+/// A taken thread comes back by the bucket of its list.
+const COMES_BACK: &[Line] = &[
+    (Call::ComeBack(1, 5), WRONG),
+    (Call::ComeBack(1, 19), WRONG),
+    (Call::Enter(2, 19), Answer::Done),
+    (Call::ComeBack(1, 3), BUSY),
+    (Call::Resume(1), BUSY),
+    (Call::Leave(2), Answer::Done),
+    (Call::Enter(2, 5), Answer::Done),
+    (Call::ComeBack(1, 3), Answer::Done),
+    (Call::Enter(0, 19), BUSY),
+    (Call::Quit(1), Answer::Left(Some(UnparkToken(4)))),
+    (Call::Leave(1), Answer::Done),
+];
+
+/// The lot of the fifth has room for five threads.
+const PLAYS: &[Play] = &[
+    play!("grown", 5, ONE_BUCKET, GROWN),
+    play!("kept out", 5, ONE_BUCKET, KEPT_OUT),
+    play!("grown later", 4, ONE_BUCKET, GROWN_LATER),
+    play!("two entered", 5, ONE_BUCKET, TWO_ENTERED),
+    Play {
+        name: "full first",
+        most: 5,
+        threads: 5,
+        before: ONE_BUCKET,
+        script: FULL_FIRST,
+    },
+    play!("comes back", 3, MOVED_AND_TAKEN, COMES_BACK),
+];
 
 #[test]
-fn a_section_keeps_others_out_of_its_bucket(rt: HostRuntime) -> Result<(), Fail> {
-    let script = [
-        (Call::Enter(3, 3), Answer::Done),
-        (Call::Enter(4, 19), BUSY),
-        (Call::Park(4, 19), BUSY),
-        (Call::UnparkOne(19, 1), BUSY),
-        (Call::UnparkAll(19, 1), BUSY),
-        (Call::UnparkFilter(19, 1), BUSY),
-        (Call::ComeBack(2, 19), BUSY),
-        (Call::Enter(4, 4), Answer::Done),
-        (Call::Status(3), INSIDE),
-        (Call::Status(4), INSIDE),
-        (Call::TakeNext(3), Answer::Taken(Some(0))),
-        (Call::Append(4, false), Answer::Done),
-        (Call::Store(3, 1), Answer::Done),
-        (Call::Leave(3), Answer::Done),
-        (Call::UnparkAll(19, 1), Answer::Number(1)),
-        (Call::UnparkAll(4, 1), BUSY),
-        (Call::Leave(4), Answer::Done),
-        (Call::UnparkAll(4, 1), Answer::Number(1)),
-        (Call::IsQueue(3, &[1]), IS),
-    ];
-    follow(&rt, 5, &ONE_BUCKET, &script)
-}
-
-#[test]
-fn buckets_grow_in_no_section(rt: HostRuntime) -> Result<(), Fail> {
-    let script = [
-        (Call::Enter(3, 4), Answer::Done),
-        (Call::Register, Answer::Number(4)),
-        (Call::Register, BUSY),
-        (Call::Status(5), Answer::Stands(None)),
-        (Call::Buckets, Answer::Number(16)),
-        (Call::Leave(3), Answer::Done),
-        (Call::Register, Answer::Number(5)),
-        (Call::Buckets, Answer::Number(32)),
-        (Call::Enter(3, 4), Answer::Done),
-        (Call::Register, Answer::Number(6)),
-        (Call::Register, Answer::Number(7)),
-        (Call::Register, FULL),
-    ];
-    follow(&rt, 4, &ONE_BUCKET, &script)
-}
-
-#[test]
-fn too_many_threads_is_told_first(rt: HostRuntime) -> Result<(), Fail> {
-    let script = [
-        (Call::Enter(3, 4), Answer::Done),
-        (Call::Register, FULL),
-        (Call::Leave(3), Answer::Done),
-        (Call::Register, FULL),
-    ];
-    follow_of(&rt, 5, 5, &ONE_BUCKET, &script)
-}
-
-#[test]
-fn a_requeue_enters_two_buckets(rt: HostRuntime) -> Result<(), Fail> {
-    let all = RequeueOp::RequeueAll;
-    let moved = Answer::Unparked(outcome(0, 2, false));
-    let script = [
-        (Call::Enter(3, 4), Answer::Done),
-        (Call::Requeue(3, 4, all), BUSY),
-        (Call::Requeue(3, 20, all), BUSY),
-        (Call::Requeue(20, 3, all), BUSY),
-        (Call::RequeueCounting(3, 20, all), BUSY),
-        (Call::IsQueue(3, &[0, 1]), IS),
-        (Call::Requeue(3, 19, all), moved),
-        (Call::IsQueue(3, &[]), IS),
-        (Call::IsQueue(19, &[2, 0, 1]), IS),
-    ];
-    follow(&rt, 5, &ONE_BUCKET, &script)
-}
-
-#[test]
-fn a_taken_thread_comes_back_by_the_bucket_of_its_list(rt: HostRuntime) -> Result<(), Fail> {
-    let moved = Answer::Unparked(outcome(0, 1, false));
-    let before = [
-        (Call::ParkTimed(1, 5), WAITS),
-        (Call::Requeue(5, 3, RequeueOp::RequeueOne), moved),
-        (Call::Enter(0, 3), Answer::Done),
-        (Call::TakeMarked(0), Answer::Taken(Some(1))),
-        (Call::Store(0, 4), Answer::Done),
-        (Call::Leave(0), Answer::Done),
-        (Call::Deadline(1), Answer::Done),
-    ];
-    let script = [
-        (Call::ComeBack(1, 5), WRONG),
-        (Call::ComeBack(1, 19), WRONG),
-        (Call::Enter(2, 19), Answer::Done),
-        (Call::ComeBack(1, 3), BUSY),
-        (Call::Resume(1), BUSY),
-        (Call::Leave(2), Answer::Done),
-        (Call::Enter(2, 5), Answer::Done),
-        (Call::ComeBack(1, 3), Answer::Done),
-        (Call::Enter(0, 19), BUSY),
-        (Call::Quit(1), Answer::Left(Some(UnparkToken(4)))),
-        (Call::Leave(1), Answer::Done),
-    ];
-    follow(&rt, 3, &before, &script)
+fn sections_and_growths_are_of_buckets(rt: HostRuntime) -> Result<(), Fail> {
+    follow_each(&rt, PLAYS)
 }
 
 /// The thread that stands there in a key's list.

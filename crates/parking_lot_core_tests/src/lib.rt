@@ -25,3 +25,5 @@ mod sections;
 mod sleepers;
 #[cfg(test)]
 mod threads;
+#[cfg(test)]
+mod trials;

@@ -6,8 +6,8 @@ use lock_word::{HandoffWord, Owner};
 use std::process::Abort;
 use std::sync::Wait;
 use std::sync::atomic::{AtomicU64, Ordering};
-use std::test::Fail;
 use std::thread;
+use std::thread::Threads;
 
 /// Waits for the lock, also for one that is handed over.
 fn own<R: Wait>(rt: &R, lock: &HandoffWord) -> Owner
@@ -57,31 +57,45 @@ fn rounds<R: Wait + Abort>(rt: &R, lock: &HandoffWord, inside: &AtomicU64, count
     seen
 }
 
-#[test]
-fn words_are_as_they_were_written(rt: HostRuntime) -> Result<(), Fail> {
-    let lock = HandoffWord::new();
+/// Whether a word is changed from one to another where it is the first, and back.
+fn is_changed(lock: &HandoffWord, from: u64, to: u64) -> bool {
     let word = lock.word();
-    let mut holds = word.load() == 0 && word.change(0, 2) == Ok(()) && word.change(0, 2) == Err(2);
-    holds = holds && word.change(2, 0) == Ok(());
-    let owner = own(&rt, &lock);
-    holds = holds && word.load() == 1 && word.change(1, 3) == Ok(()) && word.change(3, 1) == Ok(());
-    give_up(&rt, &lock, owner, true);
-    holds = holds && word.load() == 1;
-    let owner = own(&rt, &lock);
-    give_up(&rt, &lock, owner, false);
-    assert!(rt; holds && word.load() == 0);
-    Ok(())
+    word.load() == from && word.change(from, to) == Ok(()) && word.change(to, from) == Ok(())
+}
+
+/// Whether a change is refused behind another one, which is undone.
+fn is_refused(lock: &HandoffWord) -> bool {
+    let word = lock.word();
+    let refused = word.change(0, 2) == Ok(()) && word.change(0, 2) == Err(2);
+    refused && word.change(2, 0) == Ok(())
+}
+
+/// Whether an owner finds bit 0, and leaves the word as it does.
+fn is_owned<R: Wait + Abort>(rt: &R, lock: &HandoffWord, by_hand: bool, left: u64) -> bool {
+    let owner = own(rt, lock);
+    let found = is_changed(lock, 1, 3);
+    give_up(rt, lock, owner, by_hand);
+    found && lock.word().load() == left
 }
 
 #[test]
-fn two_threads_exclude_each_other(rt: HostRuntime) -> Result<(), Fail> {
+fn words_are_as_they_were_written(rt: HostRuntime) {
     let lock = HandoffWord::new();
+    let are_changed = is_changed(&lock, 0, 2) && is_refused(&lock);
+    assert!(rt; are_changed && is_owned(&rt, &lock, true, 1) && is_owned(&rt, &lock, false, 0));
+}
+
+/// How often each of two threads that own the lock beside each other finds the other inside.
+fn both_own<R: Wait + Threads + Abort + Sync>(rt: &R, lock: &HandoffWord) -> (u64, u64) {
     let inside = AtomicU64::new(0);
-    let (left, right) = thread::join(
-        &rt,
-        || rounds(&rt, &lock, &inside, 3_000),
-        || rounds(&rt, &lock, &inside, 3_000),
-    );
-    assert!(rt; left == 0 && right == 0);
-    Ok(())
+    thread::join(
+        rt,
+        || rounds(rt, lock, &inside, 3_000),
+        || rounds(rt, lock, &inside, 3_000),
+    )
+}
+
+#[test]
+fn two_threads_exclude_each_other(rt: HostRuntime) {
+    assert!(rt; both_own(&rt, &HandoffWord::new()) == (0, 0));
 }

@@ -1,10 +1,12 @@
 //! Threads that sleep under many keys, whose lists stand in one bucket or in several, and buckets that become more.
-use crate::sleepers::{TURNS, has_come, parked, sleeps, unparked};
+use crate::sleepers::{Keys, TURNS, has_come, parked_each, sleeps, unparked};
+use crate::threads::admitted;
+use crate::trials::{Trial, goes_well};
 use parking_lot_core::{
     FilterOp, LotFault, ParkResult, ParkToken, ParkingLot, RequeueOp, ThreadData, UnparkToken,
     park, thread_yield, unpark_all, unpark_filter, unpark_one, unpark_requeue,
 };
-use refusing_heap::{Heap, Refusal, RefusingHeap, Said, Seen};
+use refusing_heap::{Case, Heap, Said, Seen, make_in_turn};
 use std::alloc::{AllocError, Allocator, Global};
 use std::sync::Wait;
 use std::sync::atomic::{AtomicUsize, Ordering};
@@ -26,24 +28,13 @@ const OTHERS: usize = 90;
 
 const BETWEEN: usize = 1_000;
 
-/// The key of a pair's round. Keys of different pairs have one bucket, until there are more.
-fn key_of(pair: usize, round: usize) -> usize {
-    let each = KEYS / PAIRS;
-    pair.wrapping_mul(each).wrapping_add(round % each)
-}
-
-/// Parks again and again, and answers whether each park got the token of its round.
-fn parked_each<R: Wait + Clock>(lot: &ParkingLot<R>, pair: usize, over: &AtomicUsize) -> bool {
-    let Ok(mut me) = lot.thread_data() else {
-        return false;
-    };
-    for round in 0..ROUNDS {
-        let ended = parked(lot, &mut me, key_of(pair, round), over);
-        if ended != Some(ParkResult::Unparked(UnparkToken(round))) {
-            return false;
-        }
+/// The keys of a pair. Keys of different pairs have one bucket, until there are more.
+fn keys_of(pair: usize) -> Keys {
+    let count = KEYS / PAIRS;
+    Keys {
+        first: pair.wrapping_mul(count),
+        count,
     }
-    true
 }
 
 /// Moves a sleeper to another key, as soon as there is one, and unparks it there.
@@ -69,6 +60,15 @@ fn woken<R: Wait>(lot: &ParkingLot<R>, key: usize, round: usize) -> bool {
     }
 }
 
+/// Wakes all of any key, and answers how many there were.
+fn woken_of_all<R: Wait>(lot: &ParkingLot<R>) -> usize {
+    let mut woken = 0usize;
+    for key in 0..2 * KEYS {
+        woken = woken.wrapping_add(unpark_all(lot, key, UnparkToken(ROUNDS)));
+    }
+    woken
+}
+
 /// Wakes a sleeper so often, with the number of the round. Where it doesn't come it says that it is over.
 fn unparked_each<R: Wait>(
     lot: &ParkingLot<R>,
@@ -76,12 +76,11 @@ fn unparked_each<R: Wait>(
     over: &AtomicUsize,
     done: &AtomicUsize,
 ) -> bool {
+    let keys = keys_of(pair);
     for round in 0..ROUNDS {
-        if !woken(lot, key_of(pair, round), round) {
+        if !woken(lot, keys.at(round), round) {
             over.store(1, Ordering::SeqCst);
-            for key in 0..2 * KEYS {
-                unpark_all(lot, key, UnparkToken(ROUNDS));
-            }
+            woken_of_all(lot);
             return false;
         }
         done.fetch_add(1, Ordering::SeqCst);
@@ -106,7 +105,7 @@ fn are_woken(done: &AtomicUsize, over: &AtomicUsize, count: usize) -> bool {
 /// Registers threads while others sleep and are woken.
 fn registered<R: Wait>(lot: &ParkingLot<R>, over: &AtomicUsize, done: &AtomicUsize) -> bool {
     for number in 0..OTHERS {
-        if !are_woken(done, over, number.wrapping_mul(BETWEEN)) || lot.thread_data().is_err() {
+        if !are_woken(done, over, number.wrapping_mul(BETWEEN)) || admitted(lot).is_err() {
             return false;
         }
     }
@@ -121,7 +120,7 @@ fn takes_part<R: Wait + Clock>(
     done: &AtomicUsize,
 ) -> bool {
     if number < PAIRS {
-        parked_each(lot, number, over)
+        parked_each(lot, keys_of(number), ROUNDS, over)
     } else if number < 2 * PAIRS {
         unparked_each(lot, number - PAIRS, over, done)
     } else {
@@ -145,19 +144,18 @@ fn all_take_part<R: Wait + Threads + Clock + Sync>(
     )
 }
 
-#[test]
-fn none_is_lost_while_buckets_grow(rt: HostRuntime) -> Result<(), Fail> {
-    let lot = ParkingLot::new(rt, rt.alloc(), 100, 7)?;
+/// None is lost while buckets grow.
+fn none_is_lost<R: Wait + Threads + Clock + Sync>(
+    rt: &R,
+    alloc: Global,
+    lot: &ParkingLot<R>,
+) -> Result<bool, AllocError> {
     let over = AtomicUsize::new(0);
     let done = AtomicUsize::new(0);
-    let ended = all_take_part(&rt, rt.alloc(), &lot, &over, &done)?;
-    let mut left = 0usize;
-    for key in 0..2 * KEYS {
-        left = left.wrapping_add(unpark_all(&lot, key, UnparkToken(0)));
-    }
+    let ended = all_take_part(rt, alloc, lot, &over, &done)?;
     let are_right = ended.iter().all(|is_right| *is_right);
-    assert!(rt; are_right & (left == 0) & (done.load(Ordering::SeqCst) == PAIRS * ROUNDS));
-    Ok(())
+    let is_done = done.load(Ordering::SeqCst) == PAIRS * ROUNDS;
+    Ok(are_right & is_done & (woken_of_all(lot) == 0))
 }
 
 /// A key's list: the digits are its waiters' tokens, each and one.
@@ -214,7 +212,7 @@ fn make<R: Wait>(lot: &ParkingLot<R>, call: Call, token: usize) {
         }
         Call::Register(count) => {
             for _thread in 0..count {
-                let _ = lot.thread_data();
+                let _ = admitted(lot);
             }
         }
     }
@@ -294,31 +292,19 @@ fn six_sleep<R: Wait + Threads + Clock + Sync>(
     )
 }
 
-/// The six sleep while the calls are made. Answers what they were told, and the first step that went wrong.
-fn stepped<R: Wait + Threads + Clock + Sync>(
+/// Whether neighbouring lists stay as they are to while six sleep and the calls are made, and each is told its token.
+fn lists_stay<R: Wait + Threads + Clock + Sync>(
     rt: &R,
     alloc: Global,
     lot: &ParkingLot<R>,
-    joined: &AtomicUsize,
-) -> (Result<Vec<Option<UnparkToken>>, AllocError>, Option<usize>) {
-    thread::join(
-        rt,
-        || six_sleep(rt, alloc, lot, joined),
-        || wrong_step(lot, joined),
-    )
-}
-
-#[test]
-fn neighbouring_lists_stay(rt: HostRuntime) -> Result<(), Fail> {
-    let lot = ParkingLot::new(rt, rt.alloc(), 46, 7)?;
+) -> bool {
     let joined = AtomicUsize::new(0);
-    let (tokens, wrong) = stepped(&rt, rt.alloc(), &lot, &joined);
-    let step = wrong.unwrap_or(STEPS.len());
-    assert!(rt;
-        wrong.is_none() & are_told(tokens, [10, 13, 11, 14, 16, 15]),
-        "step {step}"
+    let (tokens, wrong) = thread::join(
+        rt,
+        || six_sleep(rt, alloc, lot, &joined),
+        || wrong_step(lot, &joined),
     );
-    Ok(())
+    wrong.is_none() & are_told(tokens, [10, 13, 11, 14, 16, 15])
 }
 
 /// Parks under key 3 until a moment that is past, and is moved to another key before. Answers how the park ended, under
@@ -352,26 +338,45 @@ fn moved_then_late<R: Wait + Clock>(
     Some((ended, told.0, told.1))
 }
 
-#[test]
-fn a_moved_thread_gives_up_at_its_new_key(rt: HostRuntime) -> Result<(), Fail> {
-    let past = Instant::now(&rt)?;
-    let lot = ParkingLot::new(rt, rt.alloc(), 4, 7)?;
-    for other in [4, 19] {
-        let ended = moved_then_late(&rt, &lot, past, other);
-        let lists = (list(&lot, 3), list(&lot, other));
-        assert!(rt;
-            ended == Some((ParkResult::TimedOut, other, true)) && lists == (0, 0),
-            "moved to {other}"
-        );
+/// A moved thread gives up at its new key.
+fn gives_up<R: Wait + Clock>(rt: &R, lot: &ParkingLot<R>, other: usize) -> bool {
+    let Ok(past) = Instant::now(rt) else {
+        return false;
+    };
+    let ended = moved_then_late(rt, lot, past, other);
+    let is_late = ended == Some((ParkResult::TimedOut, other, true));
+    is_late & (list(lot, 3) == 0) & (list(lot, other) == 0)
+}
+
+/// What many threads do, or one that is moved.
+#[derive(Clone, Copy)]
+enum Many {
+    Grow,
+    Neighbours,
+    Moved,
+}
+
+impl<R: Wait + Threads + Clock + Sync> Trial<R> for Many {
+    fn goes(self, rt: &R, alloc: Global, lot: &ParkingLot<R>) -> bool {
+        match self {
+            Many::Grow => none_is_lost(rt, alloc, lot) == Ok(true),
+            Many::Neighbours => lists_stay(rt, alloc, lot),
+            Many::Moved => gives_up(rt, lot, 4) && gives_up(rt, lot, 19),
+        }
     }
+}
+
+#[test]
+fn none_is_lost_while_buckets_grow(rt: HostRuntime) -> Result<(), Fail> {
+    assert!(rt; goes_well(rt, rt.alloc(), 100, Many::Grow)?);
     Ok(())
 }
 
-fn admitted<R: Wait>(lot: &ParkingLot<R, &Heap>) -> Result<usize, LotFault> {
-    match lot.thread_data() {
-        Ok(me) => Ok(me.thread_number()),
-        Err(fault) => Err(fault),
-    }
+#[test]
+fn lists_of_a_bucket_stay(rt: HostRuntime) -> Result<(), Fail> {
+    assert!(rt; goes_well(rt, rt.alloc(), 46, Many::Neighbours)?, "neighbours");
+    assert!(rt; goes_well(rt, rt.alloc(), 4, Many::Moved)?, "moved");
+    Ok(())
 }
 
 /// Registers the next. Where it is refused the sleeper stands in its list, and it is registered then. The sleeper is
@@ -446,18 +451,18 @@ fn both_go_on<'h, R: Wait + Threads + Clock + Sync>(
     )
 }
 
-/// A registration behind so many, in this memory, while one of them sleeps under key 3.
-fn run_beside<R: Wait + Threads + Clock + Sync + Copy + Drop>(
-    rt: R,
+/// The same behind so many registrations, the sleeper's among them.
+fn run_beside<'h, R: Wait + Threads + Clock + Sync>(
+    rt: &R,
     heap: &Heap,
+    lot: &ParkingLot<R, &'h Heap>,
     threads: usize,
 ) -> Option<Seen> {
-    let lot = ParkingLot::new(rt, heap, 40, 7).ok()?;
     let mut me = lot.thread_data().ok()?;
     for _thread in 1..threads {
-        admitted(&lot).ok()?;
+        admitted(lot).ok()?;
     }
-    let (ended, seen) = both_go_on(&rt, heap, &lot, &mut me, threads);
+    let (ended, seen) = both_go_on(rt, heap, lot, &mut me, threads);
     if ended == Some(ParkResult::Unparked(UnparkToken(42))) {
         seen
     } else {
@@ -465,32 +470,24 @@ fn run_beside<R: Wait + Threads + Clock + Sync + Copy + Drop>(
     }
 }
 
-/// The same with ample memory, and with each growth of it refused in turn. Answers how many there are, where all stood.
-fn run_in_turn<R: Wait + Threads + Clock + Sync + Copy + Drop>(
-    rt: R,
-    alloc: Global,
-    threads: usize,
-) -> Option<u64> {
-    let seen = run_beside(rt, &RefusingHeap::new(alloc, Refusal::Never), threads)?;
-    if !seen.stood {
-        return None;
-    }
-    let growths = seen.behind.saturating_sub(seen.before);
-    for growth in 0..growths {
-        let number = seen.before.saturating_add(growth).saturating_add(1);
-        let heap = RefusingHeap::new(alloc, Refusal::Once(number));
-        let stood = run_beside(rt, &heap, threads)?.stood;
-        if !stood || heap.refused() != 1 {
-            return None;
+/// A registration behind so many, while one of them sleeps under key 3.
+#[derive(Clone, Copy)]
+struct Beside(usize);
+
+impl<R: Wait + Threads + Clock + Sync + Copy + Drop> Case<R> for Beside {
+    fn run(self, rt: R, heap: &Heap) -> Option<Seen> {
+        let Beside(threads) = self;
+        match ParkingLot::new(rt, heap, 40, 7) {
+            Ok(lot) => run_beside(&rt, heap, &lot, threads),
+            Err(_) => None,
         }
     }
-    Some(growths)
 }
 
 #[test]
 fn a_refused_growth_leaves_a_sleeper(rt: HostRuntime) {
     for (threads, growths) in [(1, 1), (5, 2), (10, 2), (16, 3)] {
-        let refused = run_in_turn(rt, rt.alloc(), threads).unwrap_or(0);
+        let refused = make_in_turn(rt, rt.alloc(), Beside(threads)).unwrap_or(0);
         assert!(rt; refused == growths, "behind {threads}: {refused} growths");
     }
 }

@@ -1,17 +1,11 @@
 //! Sizes, participants and sleeps of an exclusive lot.
 
-use crate::script::{Answer, Call, WRONG, follow, outcome};
+use crate::script::{
+    Answer, Call, FULL, IS, LATE, Line, Play, RUNS, WAITS, WRONG, follow_each, play, took, woken,
+};
 use parking_lot_core::{Lot, LotFault, ParkResult, SizeFault, ThreadStatus, UnparkToken};
 use std::process::Abort;
 use std::test::Fail;
-
-const WAITS: Answer = Answer::Ended(None);
-
-const IS: Answer = Answer::Is(true);
-
-const RUNS: Answer = Answer::Stands(Some(ThreadStatus::Running));
-
-const LATE: Answer = Answer::Stands(Some(ThreadStatus::PastDeadline));
 
 #[test]
 fn sizes_are_limited(rt: HostRuntime) {
@@ -27,21 +21,6 @@ fn sizes_are_limited(rt: HostRuntime) {
 }
 
 #[test]
-fn numbers_are_given_out_again(rt: HostRuntime) -> Result<(), Fail> {
-    let full = Answer::Refused(LotFault::TooManyThreads);
-    let script = [
-        (Call::Register, Answer::Number(6)),
-        (Call::Register, Answer::Number(7)),
-        (Call::Register, full),
-        (Call::Retire(0), Answer::Done),
-        (Call::Retire(0), WRONG),
-        (Call::Status(0), Answer::Stands(None)),
-        (Call::Register, Answer::Number(0)),
-    ];
-    follow(&rt, 6, &[], &script)
-}
-
-#[test]
 fn lots_are_told_apart(rt: HostRuntime) -> Result<(), Fail> {
     let lot = Lot::new(rt.alloc(), 2, 7)?;
     let is_own = lot.same_lot(7, 1);
@@ -50,97 +29,103 @@ fn lots_are_told_apart(rt: HostRuntime) -> Result<(), Fail> {
     Ok(())
 }
 
-#[test]
-fn resources_are_counted(rt: HostRuntime) -> Result<(), Fail> {
-    let script = [
-        (Call::Acquire(1, 9), Answer::Done),
-        (Call::Acquire(1, 9), Answer::Done),
-        (Call::Release(1, 9), Answer::Done),
-        (Call::Release(1, 4), Answer::Done),
-        (Call::AreResources(1, &[9]), IS),
-        (Call::Acquire(2, 9), WRONG),
-        (Call::Release(2, 9), WRONG),
-        (Call::AreResources(2, &[]), WRONG),
-        (Call::Retire(1), Answer::Done),
-        (Call::Register, Answer::Number(1)),
-        (Call::AreResources(1, &[]), IS),
-    ];
-    follow(&rt, 2, &[], &script)
-}
+/// Numbers are given out again.
+const NUMBERS: &[Line] = &[
+    (Call::Register, Answer::Number(6)),
+    (Call::Register, Answer::Number(7)),
+    (Call::Register, FULL),
+    (Call::Retire(0), Answer::Done),
+    (Call::Retire(0), WRONG),
+    (Call::Status(0), Answer::Stands(None)),
+    (Call::Register, Answer::Number(0)),
+];
+
+/// Resources are counted.
+const RESOURCES: &[Line] = &[
+    (Call::Acquire(1, 9), Answer::Done),
+    (Call::Acquire(1, 9), Answer::Done),
+    (Call::Release(1, 9), Answer::Done),
+    (Call::Release(1, 4), Answer::Done),
+    (Call::AreResources(1, &[9]), IS),
+    (Call::Acquire(2, 9), WRONG),
+    (Call::Release(2, 9), WRONG),
+    (Call::AreResources(2, &[]), WRONG),
+    (Call::Retire(1), Answer::Done),
+    (Call::Register, Answer::Number(1)),
+    (Call::AreResources(1, &[]), IS),
+];
+
+/// A thread is unparked with a token.
+const UNPARKED: &[Line] = &[
+    (Call::Park(0, 3), WAITS),
+    (
+        Call::Status(0),
+        Answer::Stands(Some(ThreadStatus::Waiting {
+            key: 3,
+            timed: false,
+        })),
+    ),
+    (Call::Park(0, 3), WRONG),
+    (Call::UnparkOne(3, 42), took!(1, 0, false)),
+    (
+        Call::Status(0),
+        Answer::Stands(Some(ThreadStatus::Taken(UnparkToken(42)))),
+    ),
+    (Call::Resume(0), woken!(42)),
+    (Call::Status(0), RUNS),
+];
+
+/// An invalid park leaves the list.
+const INVALID: &[Line] = &[
+    (
+        Call::ParkInvalid(0, 3),
+        Answer::Ended(Some(ParkResult::Invalid)),
+    ),
+    (Call::IsQueue(3, &[]), IS),
+    (Call::Status(0), RUNS),
+];
+
+/// A deadline ends a timed sleep.
+const TIMED_OUT: &[Line] = &[
+    (Call::Deadline(0), WRONG),
+    (Call::Park(1, 3), WAITS),
+    (Call::Deadline(1), WRONG),
+    (Call::ParkTimed(0, 3), WAITS),
+    (Call::Resume(0), WRONG),
+    (Call::Deadline(0), Answer::Done),
+    (Call::Status(0), LATE),
+    (Call::Deadline(0), WRONG),
+    (
+        Call::ResumeLate(0),
+        Answer::Late(ParkResult::TimedOut, Some((3, false))),
+    ),
+    (Call::IsQueue(3, &[1]), IS),
+];
+
+/// A late thread that was taken is unparked.
+const TAKEN_LATE: &[Line] = &[
+    (Call::ParkTimed(0, 3), WAITS),
+    (Call::Deadline(0), Answer::Done),
+    (Call::UnparkOne(3, 5), took!(1, 0, false)),
+    (Call::Status(0), LATE),
+    (
+        Call::ResumeLate(0),
+        Answer::Late(ParkResult::Unparked(UnparkToken(5)), None),
+    ),
+];
+
+const PLAYS: &[Play] = &[
+    play!("numbers", 6, &[], NUMBERS),
+    play!("resources", 2, &[], RESOURCES),
+    play!("unparked", 1, &[], UNPARKED),
+    play!("invalid", 1, &[], INVALID),
+    play!("timed out", 2, &[], TIMED_OUT),
+    play!("taken late", 1, &[], TAKEN_LATE),
+];
 
 #[test]
-fn a_thread_is_unparked_with_a_token(rt: HostRuntime) -> Result<(), Fail> {
-    let token = UnparkToken(42);
-    let waiting = ThreadStatus::Waiting {
-        key: 3,
-        timed: false,
-    };
-    let taken = ThreadStatus::Taken(token);
-    let script = [
-        (Call::Park(0, 3), WAITS),
-        (Call::Status(0), Answer::Stands(Some(waiting))),
-        (Call::Park(0, 3), WRONG),
-        (
-            Call::UnparkOne(3, 42),
-            Answer::Unparked(outcome(1, 0, false)),
-        ),
-        (Call::Status(0), Answer::Stands(Some(taken))),
-        (
-            Call::Resume(0),
-            Answer::Ended(Some(ParkResult::Unparked(token))),
-        ),
-        (Call::Status(0), RUNS),
-    ];
-    follow(&rt, 1, &[], &script)
-}
-
-#[test]
-fn an_invalid_park_leaves_the_list(rt: HostRuntime) -> Result<(), Fail> {
-    let script = [
-        (
-            Call::ParkInvalid(0, 3),
-            Answer::Ended(Some(ParkResult::Invalid)),
-        ),
-        (Call::IsQueue(3, &[]), IS),
-        (Call::Status(0), RUNS),
-    ];
-    follow(&rt, 1, &[], &script)
-}
-
-#[test]
-fn a_deadline_ends_a_timed_sleep(rt: HostRuntime) -> Result<(), Fail> {
-    let script = [
-        (Call::Deadline(0), WRONG),
-        (Call::Park(1, 3), WAITS),
-        (Call::Deadline(1), WRONG),
-        (Call::ParkTimed(0, 3), WAITS),
-        (Call::Resume(0), WRONG),
-        (Call::Deadline(0), Answer::Done),
-        (Call::Status(0), LATE),
-        (Call::Deadline(0), WRONG),
-        (
-            Call::ResumeLate(0),
-            Answer::Late(ParkResult::TimedOut, Some((3, false))),
-        ),
-        (Call::IsQueue(3, &[1]), IS),
-    ];
-    follow(&rt, 2, &[], &script)
-}
-
-#[test]
-fn a_late_thread_that_was_taken_is_unparked(rt: HostRuntime) -> Result<(), Fail> {
-    let woken = ParkResult::Unparked(UnparkToken(5));
-    let script = [
-        (Call::ParkTimed(0, 3), WAITS),
-        (Call::Deadline(0), Answer::Done),
-        (
-            Call::UnparkOne(3, 5),
-            Answer::Unparked(outcome(1, 0, false)),
-        ),
-        (Call::Status(0), LATE),
-        (Call::ResumeLate(0), Answer::Late(woken, None)),
-    ];
-    follow(&rt, 1, &[], &script)
+fn threads_sleep_and_go_on(rt: HostRuntime) -> Result<(), Fail> {
+    follow_each(&rt, PLAYS)
 }
 
 /// Whether a refusal has that number and prints that name.

@@ -4,6 +4,7 @@ use parking_lot_core::{
     DEFAULT_UNPARK_TOKEN, FilterOp, Lot, LotFault, ParkResult, ParkToken, RequeueOp, ThreadStatus,
     UnparkResult, UnparkToken,
 };
+use std::alloc::Global;
 use std::process::Abort;
 use std::test::Fail;
 
@@ -83,6 +84,23 @@ pub enum Answer {
 /// A call, and what it must answer.
 pub type Line = (Call, Answer);
 
+/// The thread sleeps.
+pub const WAITS: Answer = Answer::Ended(None);
+
+pub const IS: Answer = Answer::Is(true);
+
+pub const IS_NOT: Answer = Answer::Is(false);
+
+/// Where the thread stands.
+pub const RUNS: Answer = Answer::Stands(Some(ThreadStatus::Running));
+
+pub const INSIDE: Answer = Answer::Stands(Some(ThreadStatus::InSection));
+
+pub const LATE: Answer = Answer::Stands(Some(ThreadStatus::PastDeadline));
+
+/// All numbers are given out.
+pub const FULL: Answer = Answer::Refused(LotFault::TooManyThreads);
+
 /// Refused, since the call doesn't fit where the thread stands.
 pub const WRONG: Answer = Answer::Refused(LotFault::WrongStatus);
 
@@ -90,14 +108,50 @@ pub const WRONG: Answer = Answer::Refused(LotFault::WrongStatus);
 pub const BUSY: Answer = Answer::Refused(LotFault::Busy);
 
 /// What an unpark answers that took so many, moved so many, and left some or none.
-pub const fn outcome(unparked: usize, requeued: usize, more: bool) -> UnparkResult {
-    UnparkResult {
-        unparked_threads: unparked,
-        requeued_threads: requeued,
-        have_more_threads: more,
-        be_fair: false,
-    }
+macro_rules! outcome {
+    ($unparked:expr, $requeued:expr, $more:expr) => {
+        parking_lot_core::UnparkResult {
+            unparked_threads: $unparked,
+            requeued_threads: $requeued,
+            have_more_threads: $more,
+            be_fair: false,
+        }
+    };
 }
+
+/// The same as an answer.
+macro_rules! took {
+    ($unparked:expr, $requeued:expr, $more:expr) => {
+        crate::script::Answer::Unparked(crate::script::outcome!($unparked, $requeued, $more))
+    };
+}
+
+/// The thread was unparked with that token.
+macro_rules! woken {
+    ($token:expr) => {
+        crate::script::Answer::Ended(Some(parking_lot_core::ParkResult::Unparked(
+            parking_lot_core::UnparkToken($token),
+        )))
+    };
+}
+
+/// The first `threads` numbers of a lot are given out, those of `before` are called, and then the others.
+macro_rules! play {
+    ($name:expr, $threads:expr, $before:expr, $script:expr) => {
+        crate::script::Play {
+            name: $name,
+            most: 8,
+            threads: $threads,
+            before: $before,
+            script: $script,
+        }
+    };
+}
+
+pub(crate) use outcome;
+pub(crate) use play;
+pub(crate) use took;
+pub(crate) use woken;
 
 fn done(answered: Result<(), LotFault>) -> Answer {
     match answered {
@@ -308,38 +362,44 @@ impl Marks {
     }
 }
 
-/// Makes each call on a new lot with so many threads, numbered from 0, those of `before` and then the others, and looks
-/// whether it answers as it must.
-pub fn follow(
-    rt: &(impl AllocGlobal + Abort),
-    threads: usize,
-    before: &[Line],
-    script: &[Line],
-) -> Result<(), Fail> {
-    follow_of(rt, 8, threads, before, script)
-}
-
-/// The same on a lot of at most so many threads.
-pub fn follow_of(
-    rt: &(impl AllocGlobal + Abort),
-    most: usize,
-    threads: usize,
-    before: &[Line],
-    script: &[Line],
-) -> Result<(), Fail> {
-    let mut lot = Lot::new(rt.alloc(), most, 7)?;
-    for _thread in 0..threads {
-        lot.register()?;
-    }
-    make(rt, &mut lot, before, script);
-    Ok(())
-}
-
-/// Makes each call, and looks whether it answers as it must.
-fn make(rt: &impl Abort, lot: &mut Lot, before: &[Line], script: &[Line]) {
+/// Makes each call, and answers the first line that is answered otherwise.
+fn wrong_line(lot: &mut Lot, before: &[Line], script: &[Line]) -> Option<usize> {
     let mut marks = Marks(u64::MAX, u64::MAX);
     for (at, (call, must)) in before.iter().chain(script.iter()).enumerate() {
-        let is_answered = make_call(lot, &mut marks, *call) == *must;
-        assert!(rt; is_answered, "line {at}");
+        if make_call(lot, &mut marks, *call) != *must {
+            return Some(at);
+        }
     }
+    None
+}
+
+/// Calls on a lot of at most so many threads, of which so many, numbered from 0, are registered: those of `before`, and
+/// then the others.
+#[derive(Clone, Copy)]
+pub struct Play {
+    pub name: &'static str,
+    pub most: usize,
+    pub threads: usize,
+    pub before: &'static [Line],
+    pub script: &'static [Line],
+}
+
+/// Makes a play's calls on a new lot, and answers the first line that is answered otherwise.
+fn follow(alloc: Global, play: &Play) -> Result<Option<usize>, Fail> {
+    let mut lot = Lot::new(alloc, play.most, 7)?;
+    for _thread in 0..play.threads {
+        lot.register()?;
+    }
+    Ok(wrong_line(&mut lot, play.before, play.script))
+}
+
+/// Looks whether each call of the plays answers as it must.
+pub fn follow_each(rt: &(impl AllocGlobal + Abort), plays: &[Play]) -> Result<(), Fail> {
+    for play in plays {
+        if let Some(line) = follow(rt.alloc(), play)? {
+            let name = play.name;
+            assert!(rt; false, "{name}: line {line}");
+        }
+    }
+    Ok(())
 }

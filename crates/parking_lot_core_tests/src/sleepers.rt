@@ -1,4 +1,5 @@
 //! Threads that sleep and are woken. Each waits for a flag or a thread for a bounded number of turns.
+use crate::trials::{Trial, goes_well};
 use parking_lot_core::{
     DEFAULT_PARK_TOKEN, FilterOp, ParkResult, ParkToken, ParkingLot, RequeueOp, ThreadData,
     ThreadParker, ThreadParkerT, UnparkHandleT, UnparkResult, UnparkToken, WordLock, park,
@@ -61,14 +62,34 @@ pub fn parked<R: Wait + Clock>(
     ))
 }
 
-/// Parks again and again, and answers whether each park got the token of its round.
-fn parked_each<R: Wait + Clock>(
+/// So many keys from one on, taken in turn.
+#[derive(Clone, Copy)]
+pub struct Keys {
+    pub first: usize,
+    pub count: usize,
+}
+
+impl Keys {
+    /// The key of a round.
+    pub fn at(self, round: usize) -> usize {
+        let behind = round.checked_rem(self.count).unwrap_or(0);
+        self.first.wrapping_add(behind)
+    }
+}
+
+/// Parks so often, and answers whether each park got the token of its round.
+pub fn parked_each<R: Wait + Clock>(
     lot: &ParkingLot<R>,
-    me: &mut ThreadData,
+    keys: Keys,
+    rounds: usize,
     over: &AtomicUsize,
 ) -> bool {
-    for round in 0..ROUNDS {
-        if parked(lot, me, 3, over) != Some(ParkResult::Unparked(UnparkToken(round))) {
+    let Ok(mut me) = lot.thread_data() else {
+        return false;
+    };
+    for round in 0..rounds {
+        let ended = parked(lot, &mut me, keys.at(round), over);
+        if ended != Some(ParkResult::Unparked(UnparkToken(round))) {
             return false;
         }
     }
@@ -88,27 +109,15 @@ fn unparked_each<R: Wait>(lot: &ParkingLot<R>, over: &AtomicUsize) -> bool {
 }
 
 /// One thread is woken as often as it parks, and at the end nobody is left.
-fn none_is_lost<R: Wait + Threads + Clock + Sync>(
-    rt: &R,
-    lot: &ParkingLot<R>,
-    me: &mut ThreadData,
-) -> bool {
+fn none_is_lost<R: Wait + Threads + Clock + Sync>(rt: &R, lot: &ParkingLot<R>) -> bool {
     let over = AtomicUsize::new(0);
+    let keys = Keys { first: 3, count: 1 };
     let (slept, woke) = thread::join(
         rt,
-        || parked_each(lot, me, &over),
+        || parked_each(lot, keys, ROUNDS, &over),
         || unparked_each(lot, &over),
     );
-    let left = unpark_all(lot, 3, UnparkToken(0));
-    slept & woke & (left == 0)
-}
-
-#[test]
-fn a_hundred_thousand_unparks_are_not_lost(rt: HostRuntime) -> Result<(), Fail> {
-    let lot = ParkingLot::new(rt, rt.alloc(), 2, 7)?;
-    let mut me = lot.thread_data()?;
-    assert!(rt; none_is_lost(&rt, &lot, &mut me));
-    Ok(())
+    slept & woke & (unpark_all(lot, 3, UnparkToken(0)) == 0)
 }
 
 /// Parks under key 3 until a moment that is past, once another has been told of it and has had its turn.
@@ -157,13 +166,10 @@ fn ended_late<R: Wait + Threads + Clock + Sync>(
     (ended, woke, late.load(Ordering::SeqCst) != 0)
 }
 
-#[test]
-fn a_deadline_behind_a_taking_is_no_time_out(rt: HostRuntime) -> Result<(), Fail> {
-    let lot = ParkingLot::new(rt, rt.alloc(), 2, 7)?;
-    let ended = ended_late(&rt, &lot);
+/// A deadline behind a taking is no time out.
+fn is_in_time<R: Wait + Threads + Clock + Sync>(rt: &R, lot: &ParkingLot<R>) -> bool {
     let unparked = Some(ParkResult::Unparked(UnparkToken(9)));
-    assert!(rt; ended == (unparked, true, false));
-    Ok(())
+    ended_late(rt, lot) == (unparked, true, false)
 }
 
 /// Parks under the key as the sleeper of that number, behind those with lesser numbers, and answers its token.
@@ -251,13 +257,6 @@ fn are_filtered<R: Wait + Threads + Clock + Sync>(
     is_one & are_two & are_told(tokens, [8, 7, 8])
 }
 
-#[test]
-fn a_filter_takes_whom_it_wants(rt: HostRuntime) -> Result<(), Fail> {
-    let lot = ParkingLot::new(rt, rt.alloc(), 3, 7)?;
-    assert!(rt; are_filtered(&rt, rt.alloc(), &lot));
-    Ok(())
-}
-
 /// As soon as all sleep, wakes the first and has the others sleep under key 4, where they are woken. Answers the first
 /// step, and how many were left under key 3 and under key 4.
 fn requeues<R: Wait>(
@@ -292,28 +291,29 @@ fn are_requeued<R: Wait + Threads + Clock + Sync>(
     are_moved & (left == 0) & (rest == 2) & are_told(tokens, [7, 8, 8])
 }
 
-#[test]
-fn requeued_threads_wake_under_the_other_key(rt: HostRuntime) -> Result<(), Fail> {
-    let lot = ParkingLot::new(rt, rt.alloc(), 3, 7)?;
-    assert!(rt; are_requeued(&rt, rt.alloc(), &lot));
-    Ok(())
+/// Unparks nobody or filters nobody, and answers whether that is to be fair.
+fn is_fair<R: Wait>(lot: &ParkingLot<R>, filters: bool) -> bool {
+    if filters {
+        unpark_filter(lot, 3, |_| FilterOp::Stop, |_| UnparkToken(0)).be_fair
+    } else {
+        unpark_one(lot, 3, |_| UnparkToken(0)).be_fair
+    }
 }
 
-#[test]
-fn each_64th_unpark_or_filter_is_fair(rt: HostRuntime) -> Result<(), Fail> {
-    let lot = ParkingLot::new(rt, rt.alloc(), 2, 7)?;
+/// Whether a requeue of nobody is to be fair, or somebody waits.
+fn is_other<R: Wait>(lot: &ParkingLot<R>) -> bool {
+    let other = unpark_requeue(lot, 3, 4, || RequeueOp::UnparkOne, |_, _| UnparkToken(0));
+    other.be_fair | (unpark_all(lot, 3, UnparkToken(0)) != 0)
+}
+
+/// Whether each 64th unpark or filter is fair, and no other call is.
+fn are_fair<R: Wait>(lot: &ParkingLot<R>) -> bool {
     for turn in 1..257u32 {
-        let result = if turn % 3 == 0 {
-            unpark_filter(&lot, 3, |_| FilterOp::Stop, |_| UnparkToken(0))
-        } else {
-            unpark_one(&lot, 3, |_| UnparkToken(0))
-        };
-        let is_fair = result.be_fair == (turn % 64 == 0);
-        let other = unpark_requeue(&lot, 3, 4, || RequeueOp::UnparkOne, |_, _| UnparkToken(0));
-        let woken = unpark_all(&lot, 3, UnparkToken(0));
-        assert!(rt; is_fair & !other.be_fair & (woken == 0), "turn {turn}");
+        if is_fair(lot, turn % 3 == 0) != (turn % 64 == 0) || is_other(lot) {
+            return false;
+        }
     }
-    Ok(())
+    true
 }
 
 /// Whether a thread that sleeps on the seat is told to be late. Another unparks it.
@@ -326,16 +326,20 @@ fn is_parked_late<R: Wait + Threads + Sync>(rt: &R, seat: &ThreadParker) -> bool
     late
 }
 
+/// Whether a park on the seat until that moment is not in time, and tells so.
+fn is_late<R: Wait + Clock>(rt: &R, seat: &ThreadParker, past: Instant) -> bool {
+    seat.prepare_park(rt);
+    let is_in_time = seat.park_until(rt, past, rt);
+    !is_in_time & seat.timed_out(rt)
+}
+
 #[test]
 fn a_seat_is_unparked_by_its_handle(rt: HostRuntime) -> Result<(), Fail> {
     let seat = ThreadParker::new();
     let past = Instant::now(&rt)?;
-    seat.prepare_park(&rt);
-    let is_in_time = seat.park_until(&rt, past, &rt);
-    let is_late = seat.timed_out(&rt);
+    let is_late = is_late(&rt, &seat, past);
     let is_parked_late = is_parked_late(&rt, &seat);
-    let is_unparked = seat.park_until(&rt, past, &rt);
-    assert!(rt; !is_in_time & is_late & !is_parked_late & is_unparked);
+    assert!(rt; is_late & !is_parked_late & seat.park_until(&rt, past, &rt));
     Ok(())
 }
 
@@ -425,9 +429,46 @@ fn hand_turns<R: Wait + Threads + Clock + Sync>(rt: &R, lot: &ParkingLot<R>, rou
     left & right & (turn.load(Ordering::SeqCst) == 0)
 }
 
+/// What sleepers are woken by.
+#[derive(Clone, Copy)]
+enum Waking {
+    HundredThousand,
+    InTime,
+    Filters,
+    Requeues,
+    Fair,
+    Turns,
+}
+
+impl<R: Wait + Threads + Clock + Sync> Trial<R> for Waking {
+    fn goes(self, rt: &R, alloc: Global, lot: &ParkingLot<R>) -> bool {
+        match self {
+            Waking::HundredThousand => none_is_lost(rt, lot),
+            Waking::InTime => is_in_time(rt, lot),
+            Waking::Filters => are_filtered(rt, alloc, lot),
+            Waking::Requeues => are_requeued(rt, alloc, lot),
+            Waking::Fair => are_fair(lot),
+            Waking::Turns => hand_turns(rt, lot, 100),
+        }
+    }
+}
+
 #[test]
-fn two_threads_hand_a_turn_to_and_fro(rt: HostRuntime) -> Result<(), Fail> {
-    let lot = ParkingLot::new(rt, rt.alloc(), 2, 7)?;
-    assert!(rt; hand_turns(&rt, &lot, 100));
+fn a_hundred_thousand_unparks_are_not_lost(rt: HostRuntime) -> Result<(), Fail> {
+    assert!(rt; goes_well(rt, rt.alloc(), 2, Waking::HundredThousand)?);
+    Ok(())
+}
+
+#[test]
+fn sleepers_are_woken(rt: HostRuntime) -> Result<(), Fail> {
+    for (name, threads, waking) in [
+        ("a deadline behind a taking", 2, Waking::InTime),
+        ("a filter takes whom it wants", 3, Waking::Filters),
+        ("those that are requeued", 3, Waking::Requeues),
+        ("each 64th unpark or filter", 2, Waking::Fair),
+        ("a turn to and fro", 2, Waking::Turns),
+    ] {
+        assert!(rt; goes_well(rt, rt.alloc(), threads, waking)?, "{name}");
+    }
     Ok(())
 }

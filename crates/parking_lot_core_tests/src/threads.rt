@@ -1,11 +1,13 @@
 //! The lot for threads, as one or two threads use it.
 
 use crate::sleepers;
+use crate::trials::{Trial, goes_well};
 use parking_lot_core::{
     DEFAULT_PARK_TOKEN, DEFAULT_UNPARK_TOKEN, LotFault, ParkResult, ParkingLot, RequeueOp,
     SizeFault, SpinWait, ThreadData, UnparkResult, UnparkToken, WordLock, deadlock, park,
     unpark_all, unpark_one, unpark_requeue,
 };
+use std::alloc::{Allocator, Global};
 use std::sync::Wait;
 use std::sync::atomic::AtomicUsize;
 use std::test::Fail;
@@ -21,18 +23,25 @@ fn sizes_of_lots_for_threads_are_limited(rt: HostRuntime) {
     }
 }
 
-#[test]
-fn participants_are_counted(rt: HostRuntime) -> Result<(), Fail> {
-    let lot = ParkingLot::new(rt, rt.alloc(), 2, 7)?;
-    let first = lot.thread_data()?;
-    let second = lot.thread_data()?;
+/// The number of a new participant.
+pub fn admitted<R: Wait, A: Allocator + Clone + Drop>(
+    lot: &ParkingLot<R, A>,
+) -> Result<usize, LotFault> {
+    match lot.thread_data() {
+        Ok(me) => Ok(me.thread_number()),
+        Err(fault) => Err(fault),
+    }
+}
+
+/// Whether a second participant has the next number, a third is refused, and a number is given out again.
+fn are_counted<R: Wait>(lot: &ParkingLot<R>) -> Option<bool> {
+    let first = lot.thread_data().ok()?;
+    let second = lot.thread_data().ok()?;
     let is_second = (second.lot_number() == 7) & (second.thread_number() == 1);
-    let is_full = lot.thread_data().err() == Some(LotFault::TooManyThreads);
-    assert!(rt; lot.same_lot(&first));
+    let is_full = admitted(lot) == Err(LotFault::TooManyThreads);
+    let is_own = lot.same_lot(&first);
     lot.retire(first);
-    let is_first_again = lot.thread_data()?.thread_number() == 0;
-    assert!(rt; is_second & is_full & is_first_again);
-    Ok(())
+    Some(is_second & is_full & is_own & (admitted(lot) == Ok(0)))
 }
 
 /// A park of a thread that is alone: whether its validation says yes, whether it unparks itself right before it sleeps,
@@ -78,78 +87,77 @@ fn parked<R: Wait + Clock>(
     ParkEnd(Some(ended), slept, told)
 }
 
-/// The same in a new lot.
-fn parked_alone<R: Wait + Clock + AllocGlobal + Copy>(rt: &R, how: Alone) -> Result<ParkEnd, Fail> {
-    let lot = ParkingLot::new(*rt, rt.alloc(), 2, 7)?;
-    let mut me = lot.thread_data()?;
+/// Whether a thread that parks so ends so.
+fn parks<R: Wait + Clock>(rt: &R, lot: &ParkingLot<R>, how: Alone, must: ParkEnd) -> Option<bool> {
+    let mut me = lot.thread_data().ok()?;
     let timeout = if how.late {
-        Some((Instant::now(rt)?, rt))
+        Some((Instant::now(rt).ok()?, rt))
     } else {
         None
     };
-    Ok(parked(&lot, &mut me, timeout, how))
+    Some(parked(lot, &mut me, timeout, how) == must)
 }
 
 /// One unparks itself before it sleeps; an invalid park runs nothing else; and a moment that is past ends a park.
-#[test]
-fn one_parks_alone(rt: HostRuntime) -> Result<(), Fail> {
-    let unparked = ParkResult::Unparked(UnparkToken(42));
-    let table = [
-        ((true, true, false), ParkEnd(Some(unparked), true, None)),
-        (
-            (false, false, false),
-            ParkEnd(Some(ParkResult::Invalid), false, None),
-        ),
-        (
-            (true, false, true),
-            ParkEnd(Some(ParkResult::TimedOut), true, Some((3, true))),
-        ),
-    ];
-    for ((valid, unparks, late), must) in table {
-        let how = Alone {
-            valid,
-            unparks,
-            late,
-        };
-        let is_so = parked_alone(&rt, how)? == must;
-        assert!(rt; is_so, "valid {valid}, unparks {unparks}, late {late}");
-    }
-    Ok(())
-}
+const ALONE: [(Alone, ParkEnd); 3] = [
+    (
+        Alone {
+            valid: true,
+            unparks: true,
+            late: false,
+        },
+        ParkEnd(Some(ParkResult::Unparked(UnparkToken(42))), true, None),
+    ),
+    (
+        Alone {
+            valid: false,
+            unparks: false,
+            late: false,
+        },
+        ParkEnd(Some(ParkResult::Invalid), false, None),
+    ),
+    (
+        Alone {
+            valid: true,
+            unparks: false,
+            late: true,
+        },
+        ParkEnd(Some(ParkResult::TimedOut), true, Some((3, true))),
+    ),
+];
 
-#[test]
-fn each_64th_unpark_is_fair(rt: HostRuntime) -> Result<(), Fail> {
-    let lot = ParkingLot::new(rt, rt.alloc(), 2, 7)?;
+/// Whether each 64th unpark asks for a fair release.
+fn are_fair<R: Wait>(lot: &ParkingLot<R>) -> bool {
     for turn in 1..129u32 {
-        let fair = unpark_one(&lot, 3, |_| DEFAULT_UNPARK_TOKEN).be_fair;
-        assert!(rt; fair == (turn % 64 == 0), "turn {turn}");
+        let fair = unpark_one(lot, 3, |_| DEFAULT_UNPARK_TOKEN).be_fair;
+        if fair != (turn % 64 == 0) {
+            return false;
+        }
     }
-    Ok(())
+    true
 }
 
-#[test]
-fn an_aborted_requeue_of_threads_does_nothing(rt: HostRuntime) -> Result<(), Fail> {
-    let lot = ParkingLot::new(rt, rt.alloc(), 2, 7)?;
-    let result = unpark_requeue(&lot, 1, 2, || RequeueOp::Abort, |_, _| DEFAULT_UNPARK_TOKEN);
-    let woken = unpark_all(&lot, 1, DEFAULT_UNPARK_TOKEN);
-    assert!(rt; (result == UnparkResult::default()) & (woken == 0));
+/// Whether an aborted requeue does nothing, and keys are claimed behind one another.
+fn is_aborted<R: Wait>(lot: &ParkingLot<R>) -> bool {
+    let result = unpark_requeue(lot, 1, 2, || RequeueOp::Abort, |_, _| DEFAULT_UNPARK_TOKEN);
+    let woken = unpark_all(lot, 1, DEFAULT_UNPARK_TOKEN);
     let first = lot.claim_keys(4);
     let second = lot.claim_keys(1);
-    assert!(rt; (first == 0) & (second == 4));
-    Ok(())
+    (result == UnparkResult::default()) & (woken == 0) & (first == 0) & (second == 4)
 }
 
-#[test]
-fn participants_record_resources(rt: HostRuntime) -> Result<(), Fail> {
-    let lot = ParkingLot::new(rt, rt.alloc(), 2, 7)?;
-    let mut me = lot.thread_data()?;
-    deadlock::acquire_resource(&mut me, 9)?;
-    deadlock::acquire_resource(&mut me, 9)?;
-    deadlock::release_resource(&mut me, 9);
-    deadlock::release_resource(&mut me, 4);
-    let resources = deadlock::resources(&me)?;
-    assert!(rt; resources.as_slice() == [9].as_slice());
-    Ok(())
+/// Whether a participant's resources are those that were acquired once more than released.
+fn are_recorded(me: &mut ThreadData) -> Result<bool, LotFault> {
+    deadlock::acquire_resource(me, 9)?;
+    deadlock::acquire_resource(me, 9)?;
+    deadlock::release_resource(me, 9);
+    deadlock::release_resource(me, 4);
+    Ok(deadlock::resources(me)?.as_slice() == [9].as_slice())
+}
+
+/// The same of a new participant.
+fn records<R: Wait>(lot: &ParkingLot<R>) -> Result<bool, LotFault> {
+    are_recorded(&mut lot.thread_data()?)
 }
 
 #[test]
@@ -189,11 +197,52 @@ fn both<R: Wait + Threads + Clock + Sync>(
     )
 }
 
-#[test]
-fn one_thread_unparks_another(rt: HostRuntime) -> Result<(), Fail> {
-    let lot = ParkingLot::new(rt, rt.alloc(), 2, 7)?;
-    let mut me = lot.thread_data()?;
+/// Whether a thread's park ends by another's unpark.
+fn is_unparked<R: Wait + Threads + Clock + Sync>(rt: &R, lot: &ParkingLot<R>) -> Option<bool> {
+    let mut me = lot.thread_data().ok()?;
     let told = Some(ParkResult::Unparked(UnparkToken(42)));
-    assert!(rt; both(&rt, &lot, &mut me) == (told, true));
+    Some(both(rt, lot, &mut me) == (told, true))
+}
+
+/// What one thread tries, or two.
+#[derive(Clone, Copy)]
+enum Use {
+    Counts,
+    /// Parks alone, in one of three ways.
+    Parks(Alone, ParkEnd),
+    Fair,
+    Aborts,
+    Records,
+    Unparks,
+}
+
+impl<R: Wait + Threads + Clock + Sync> Trial<R> for Use {
+    fn goes(self, rt: &R, _alloc: Global, lot: &ParkingLot<R>) -> bool {
+        match self {
+            Use::Counts => are_counted(lot) == Some(true),
+            Use::Parks(how, must) => parks(rt, lot, how, must) == Some(true),
+            Use::Fair => are_fair(lot),
+            Use::Aborts => is_aborted(lot),
+            Use::Records => records(lot) == Ok(true),
+            Use::Unparks => is_unparked(rt, lot) == Some(true),
+        }
+    }
+}
+
+#[test]
+fn one_thread_or_two_use_a_lot(rt: HostRuntime) -> Result<(), Fail> {
+    for (name, used) in [
+        ("counts", Use::Counts),
+        ("each 64th unpark is fair", Use::Fair),
+        ("an aborted requeue", Use::Aborts),
+        ("resources", Use::Records),
+        ("one unparks another", Use::Unparks),
+    ] {
+        assert!(rt; goes_well(rt, rt.alloc(), 2, used)?, "{name}");
+    }
+    for (at, (how, must)) in ALONE.iter().enumerate() {
+        let well = goes_well(rt, rt.alloc(), 2, Use::Parks(*how, *must))?;
+        assert!(rt; well, "park {at} alone");
+    }
     Ok(())
 }

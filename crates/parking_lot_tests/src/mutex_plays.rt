@@ -1,8 +1,15 @@
 //! Plays at the running mutexes.
 
 use crate::calls::{Answer, Aside, Deed, How, Line, Mode, Step};
-use crate::stage::{Kind, Setting, alone, on, pair, play};
+use crate::stage::{Kind, Play, Setting, on, play, play_each};
 use std::test::Fail;
+
+/// A mutex of each kind.
+const PLAIN: Setting = on!(Kind::Plain);
+
+const FAIR: Setting = on!(Kind::Fair);
+
+const REENTRANT: Setting = on!(Kind::Reentrant);
 
 /// Asks, and has it.
 const LOCK: Line = (Step::Ask(Mode::Exclusive, How::Waits), Answer::Had);
@@ -75,12 +82,15 @@ const IN_TIME: &[Line] = &[
     (Step::Probe(Mode::Exclusive, How::Always), Answer::HadAt(1)),
 ];
 
+const OF_ONE: &[Play] = &[
+    play!("alone", PLAIN, ALONE),
+    play!("plain in time", PLAIN, IN_TIME),
+    play!("fair in time", FAIR, IN_TIME),
+];
+
 #[test]
 fn one_thread_has_a_mutex_or_gives_up(rt: HostRuntime) -> Result<(), Fail> {
-    let alloc = rt.alloc();
-    alone(rt, alloc, "alone", on(Kind::Plain), ALONE)?;
-    alone(rt, alloc, "plain in time", on(Kind::Plain), IN_TIME)?;
-    alone(rt, alloc, "fair in time", on(Kind::Fair), IN_TIME)
+    play_each(rt, rt.alloc(), OF_ONE)
 }
 
 /// The second thread, which sleeps behind the first, finds what that has said, and answers.
@@ -96,16 +106,17 @@ const BUMPS: &[Line] = &[LOCK, PARKED, SAY_1, BUMP, SAID_2, END];
 /// The same, whoever has the mutex first.
 const UNLOCKS_FOR_ANYBODY: &[Line] = &[LOCK, PARKED, SAY_1, END, LOCK, END];
 
+const OF_TWO: &[Play] = &[
+    play!("fair, unlocked", FAIR, UNLOCKS, SECOND),
+    play!("fair, handed over", FAIR, HANDS_OVER, SECOND),
+    play!("fair, bumped", FAIR, BUMPS, SECOND),
+    play!("plain, handed over", PLAIN, HANDS_OVER, SECOND),
+    play!("plain, bumped", PLAIN, BUMPS, SECOND),
+];
+
 #[test]
 fn a_mutex_is_handed_over(rt: HostRuntime) -> Result<(), Fail> {
-    let alloc = rt.alloc();
-    let fair = on(Kind::Fair);
-    pair(rt, alloc, "fair, unlocked", fair, UNLOCKS, SECOND)?;
-    pair(rt, alloc, "fair, handed over", fair, HANDS_OVER, SECOND)?;
-    pair(rt, alloc, "fair, bumped", fair, BUMPS, SECOND)?;
-    let plain = on(Kind::Plain);
-    pair(rt, alloc, "plain, handed over", plain, HANDS_OVER, SECOND)?;
-    pair(rt, alloc, "plain, bumped", plain, BUMPS, SECOND)
+    play_each(rt, rt.alloc(), OF_TWO)
 }
 
 /// A bucket's 64th unpark asks for a fair release.
@@ -122,14 +133,15 @@ const OF_ANOTHER_LOT: Setting = Setting {
     lot: 8,
 };
 
+const OF_A_SLEEPER: &[Play] = &[
+    play!("a sleeper", PLAIN, UNLOCKS_FOR_ANYBODY, SECOND),
+    play!("of another lot", OF_ANOTHER_LOT, UNLOCKS_FOR_ANYBODY, SECOND),
+    play!("fair by the lot", FAIR_BY_THE_LOT, UNLOCKS, SECOND),
+];
+
 #[test]
 fn a_sleeper_is_woken(rt: HostRuntime) -> Result<(), Fail> {
-    let alloc = rt.alloc();
-    let lines = [UNLOCKS_FOR_ANYBODY, SECOND, &[], &[]];
-    play(rt, alloc, "a sleeper", on(Kind::Plain), lines)?;
-    play(rt, alloc, "of another lot", OF_ANOTHER_LOT, lines)?;
-    let fair = FAIR_BY_THE_LOT;
-    pair(rt, alloc, "fair by the lot", fair, UNLOCKS, SECOND)
+    play_each(rt, rt.alloc(), OF_A_SLEEPER)
 }
 
 /// The number that a guard adds to, and what it is then.
@@ -151,13 +163,14 @@ const HANDS_OVER_TO_ONE: &[Line] = &[LOCK, PUT_1, PARKED, END_FAIRLY, REFUSED, S
 /// It lets the other go first.
 const GOES_SECOND: &[Line] = &[LOCK, PUT_1, PARKED, SAY_1, BUMP, GET_11, END];
 
+const OF_GUARDS: &[Play] = &[
+    play!("a fair end", PLAIN, HANDS_OVER_TO_ONE, ADDS_BEHIND, &[], LEFT_11),
+    play!("a bump", PLAIN, GOES_SECOND, ADDS_BEHIND, &[], LEFT_11),
+];
+
 #[test]
 fn a_guard_gives_way(rt: HostRuntime) -> Result<(), Fail> {
-    let plain = on(Kind::Plain);
-    let lines = [HANDS_OVER_TO_ONE, ADDS_BEHIND, &[], LEFT_11];
-    play(rt, rt.alloc(), "a fair end", plain, lines)?;
-    let lines = [GOES_SECOND, ADDS_BEHIND, &[], LEFT_11];
-    play(rt, rt.alloc(), "a bump", plain, lines)
+    play_each(rt, rt.alloc(), OF_GUARDS)
 }
 
 /// A guard of a fair mutex writes and reads.
@@ -169,9 +182,13 @@ const WRITES: &[Line] = &[
     (Step::Aside(Aside::Locked), Answer::No),
 ];
 
+const OF_A_FAIR_GUARD: &[Play] = &[
+    play!("writes", FAIR, WRITES),
+];
+
 #[test]
 fn a_guard_of_a_fair_mutex_lends_what_was_written(rt: HostRuntime) -> Result<(), Fail> {
-    alone(rt, rt.alloc(), "writes", on(Kind::Fair), WRITES)
+    play_each(rt, rt.alloc(), OF_A_FAIR_GUARD)
 }
 
 /// Of a reentrant mutex of two holds the owner has a second one, in time too, and no third one, and another party none.
@@ -216,11 +233,12 @@ const NESTS_BEFORE: &[Line] = &[
 /// It takes the mutex once the other thread has it, and finds what that has said.
 const LOCKS_BEHIND: &[Line] = &[LOCKED, LOCK, SAID_1, END];
 
+const OF_HOLDS: &[Play] = &[
+    play!("nested", REENTRANT, NESTED),
+    play!("behind the last", REENTRANT, NESTS_BEFORE, LOCKS_BEHIND),
+];
+
 #[test]
 fn holds_of_a_reentrant_mutex_nest(rt: HostRuntime) -> Result<(), Fail> {
-    let alloc = rt.alloc();
-    let reentrant = on(Kind::Reentrant);
-    alone(rt, alloc, "nested", reentrant, NESTED)?;
-    let lines = [NESTS_BEFORE, LOCKS_BEHIND, &[], &[]];
-    play(rt, alloc, "behind the last", reentrant, lines)
+    play_each(rt, rt.alloc(), OF_HOLDS)
 }

@@ -1,13 +1,18 @@
 //! Plays at the running reader-writer locks.
 
 use crate::calls::{Answer, Aside, Deed, How, Line, Mode, Step, Turn};
-use crate::stage::{Kind, Setting, alone, on, pair, play};
+use crate::stage::{Kind, Play, Setting, on, play, play_each};
 use std::test::Fail;
 
 /// A lock of so many readers.
-const fn of(readers: u64) -> Setting {
-    on(Kind::ReadWrite(readers))
+macro_rules! of {
+    ($readers:expr) => {
+        on!(Kind::ReadWrite($readers))
+    };
 }
+
+/// A recursive one of five.
+const RECURSIVE: Setting = on!(Kind::Recursive(5));
 
 /// What the first hand asks for, and has.
 const READ: Line = (Step::Ask(Mode::Shared, How::Waits), Answer::Had);
@@ -286,19 +291,21 @@ const READS_OR_WRITES: &[Line] = &[
     UNLOCKED,
 ];
 
+const OF_ONE: &[Play] = &[
+    play!("two readers", of!(2), TWO_READERS),
+    play!("a writer", of!(0), A_WRITER),
+    play!("an upgradable owner", of!(5), AN_UPGRADABLE_OWNER),
+    play!("a refused upgrade", of!(5), A_REFUSED_UPGRADE),
+    play!("an upgrade in time", of!(5), AN_UPGRADE_IN_TIME),
+    play!("the one reader", of!(1), THE_ONE_READER),
+    play!("in time", of!(5), IN_TIME),
+    play!("reads or writes", of!(5), READS_OR_WRITES),
+    play!("in time, recursive", RECURSIVE, IN_TIME),
+];
+
 #[test]
 fn one_thread_has_a_lock_or_gives_up(rt: HostRuntime) -> Result<(), Fail> {
-    let alloc = rt.alloc();
-    alone(rt, alloc, "two readers", of(2), TWO_READERS)?;
-    alone(rt, alloc, "a writer", of(0), A_WRITER)?;
-    alone(rt, alloc, "an upgradable owner", of(5), AN_UPGRADABLE_OWNER)?;
-    alone(rt, alloc, "a refused upgrade", of(5), A_REFUSED_UPGRADE)?;
-    alone(rt, alloc, "an upgrade in time", of(5), AN_UPGRADE_IN_TIME)?;
-    alone(rt, alloc, "the one reader", of(1), THE_ONE_READER)?;
-    alone(rt, alloc, "in time", of(5), IN_TIME)?;
-    alone(rt, alloc, "reads or writes", of(5), READS_OR_WRITES)?;
-    let recursive = on(Kind::Recursive(5));
-    alone(rt, alloc, "in time, recursive", recursive, IN_TIME)
+    play_each(rt, rt.alloc(), OF_ONE)
 }
 
 /// It writes once another thread reads.
@@ -318,13 +325,15 @@ const READS_BEHIND: &[Line] = &[
     END,
 ];
 
+const OF_READERS: &[Play] = &[
+    play!("a writer", of!(5), READS_BEFORE, WRITES_BEHIND),
+    play!("readers of one", of!(1), WRITES_BEFORE, READS_BEHIND, READS_BEHIND, &[]),
+    play!("readers of five", of!(5), WRITES_BEFORE, READS_BEHIND, READS_BEHIND, &[]),
+];
+
 #[test]
 fn readers_and_writers_wait(rt: HostRuntime) -> Result<(), Fail> {
-    let alloc = rt.alloc();
-    pair(rt, alloc, "a writer", of(5), READS_BEFORE, WRITES_BEHIND)?;
-    let readers: [&[Line]; 4] = [WRITES_BEFORE, READS_BEHIND, READS_BEHIND, &[]];
-    play(rt, alloc, "readers of one", of(1), readers)?;
-    play(rt, alloc, "readers of five", of(5), readers)
+    play_each(rt, rt.alloc(), OF_READERS)
 }
 
 /// It reads 0 until a writer sleeps, and no other reader is let in.
@@ -371,19 +380,17 @@ const LEFT_10: &[Line] = &[READ, get!(10), END];
 
 const LEFT_11: &[Line] = &[READ, get!(11), END];
 
+const OF_A_WRITER: &[Play] = &[
+    play!("reads 0", of!(9), READS_0, WRITES_6, &[], LEFT_6),
+    play!("stops writing", of!(9), STOPS_WRITING, ADDS_BEHIND_A_WRITER, &[], LEFT_11),
+    play!("gives way as writer", of!(9), GIVES_WAY_AS_WRITER, ADDS_BEHIND_A_WRITER, &[], LEFT_11),
+    play!("stops reading", of!(9), STOPS_READING, ADDS_BEHIND_A_READER, &[], LEFT_10),
+    play!("gives way as reader", of!(9), GIVES_WAY_AS_READER, ADDS_BEHIND_A_READER, &[], LEFT_10),
+];
+
 #[test]
 fn a_writer_that_sleeps_comes_first(rt: HostRuntime) -> Result<(), Fail> {
-    let alloc = rt.alloc();
-    let lines = [READS_0, WRITES_6, &[], LEFT_6];
-    play(rt, alloc, "reads 0", of(9), lines)?;
-    let lines = [STOPS_WRITING, ADDS_BEHIND_A_WRITER, &[], LEFT_11];
-    play(rt, alloc, "stops writing", of(9), lines)?;
-    let lines = [GIVES_WAY_AS_WRITER, ADDS_BEHIND_A_WRITER, &[], LEFT_11];
-    play(rt, alloc, "gives way as writer", of(9), lines)?;
-    let lines = [STOPS_READING, ADDS_BEHIND_A_READER, &[], LEFT_10];
-    play(rt, alloc, "stops reading", of(9), lines)?;
-    let lines = [GIVES_WAY_AS_READER, ADDS_BEHIND_A_READER, &[], LEFT_10];
-    play(rt, alloc, "gives way as reader", of(9), lines)
+    play_each(rt, rt.alloc(), OF_A_WRITER)
 }
 
 /// It reads until a writer sleeps, and asks again as a reader and as an upgradable owner: past the writer, or in vain.
@@ -408,15 +415,15 @@ const READS_ON: &[Line] = &[
     END,
 ];
 
+const OF_A_READER: &[Play] = &[
+    play!("reads again", RECURSIVE, READS_AGAIN, WRITES_BEHIND),
+    play!("reads on", RECURSIVE, READS_ON, WRITES_BEHIND),
+    play!("asks in vain", of!(5), ASKS_IN_VAIN, WRITES_BEHIND),
+];
+
 #[test]
 fn one_that_reads_may_read_again_on_a_recursive_lock(rt: HostRuntime) -> Result<(), Fail> {
-    let alloc = rt.alloc();
-    let recursive = on(Kind::Recursive(5));
-    let lines = [READS_AGAIN, WRITES_BEHIND, &[], &[]];
-    play(rt, alloc, "reads again", recursive, lines)?;
-    pair(rt, alloc, "reads on", recursive, READS_ON, WRITES_BEHIND)?;
-    let lines = [ASKS_IN_VAIN, WRITES_BEHIND, &[], &[]];
-    play(rt, alloc, "asks in vain", of(5), lines)
+    play_each(rt, rt.alloc(), OF_A_READER)
 }
 
 /// It reads alone while another asks to write for a while and gives up, and goes on until one more has looked.
@@ -431,8 +438,11 @@ const A_WRITER_GIVES_UP: &[Line] = &[
 /// Behind the writer that sleeps it asks to read, and comes in beside the reader.
 const COMES_IN: &[Line] = &[comes!(26), READ, word!(32), say!(1), END];
 
+const OF_ONE_THAT_GIVES_UP: &[Play] = &[
+    play!("a writer gives up", of!(5), A_WRITER_GIVES_UP, COMES_IN),
+];
+
 #[test]
 fn those_that_a_writer_kept_out_come_in_once_it_gives_up(rt: HostRuntime) -> Result<(), Fail> {
-    let lines: [&[Line]; 4] = [A_WRITER_GIVES_UP, COMES_IN, &[], &[]];
-    play(rt, rt.alloc(), "a writer gives up", of(5), lines)
+    play_each(rt, rt.alloc(), OF_ONE_THAT_GIVES_UP)
 }

@@ -43,15 +43,57 @@ pub struct Setting {
 }
 
 /// A lock of that kind, with threads of its own lot.
-pub const fn on(kind: Kind) -> Setting {
-    Setting {
-        kind,
-        unparks: 0,
-        lot: 7,
-    }
+macro_rules! on {
+    ($kind:expr) => {
+        crate::stage::Setting {
+            kind: $kind,
+            unparks: 0,
+            lot: 7,
+        }
+    };
 }
 
-/// A play: what each thread does, and what is done once they have ended.
+/// A play at a new lock: what each thread does, and what is done once they have ended.
+#[derive(Clone, Copy)]
+pub struct Play {
+    pub name: &'static str,
+    pub setting: Setting,
+    pub lines: Lines<'static>,
+}
+
+/// A play of one thread, or of those that follow these lines.
+macro_rules! play {
+    ($name:expr, $setting:expr, $first:expr) => {
+        crate::stage::play!($name, $setting, $first, &[], &[], &[])
+    };
+    ($name:expr, $setting:expr, $first:expr, $second:expr) => {
+        crate::stage::play!($name, $setting, $first, $second, &[], &[])
+    };
+    ($name:expr, $setting:expr, $first:expr, $second:expr, $third:expr, $last:expr) => {
+        crate::stage::Play {
+            name: $name,
+            setting: $setting,
+            lines: [$first, $second, $third, $last],
+        }
+    };
+}
+
+pub(crate) use on;
+pub(crate) use play;
+
+/// Four threads that make the rounds so many times at a new lock of that kind, and how often they add 1 at least and at
+/// most.
+#[derive(Clone, Copy)]
+pub struct Crowd {
+    pub name: &'static str,
+    pub kind: Kind,
+    pub rounds: &'static [Round],
+    pub times: u32,
+    pub least: u64,
+    pub most: u64,
+}
+
+/// What each thread does, and what is done once they have ended.
 pub type Lines<'s> = [&'s [Line]; 4];
 
 /// A lock that threads play at, whichever it is.
@@ -268,15 +310,6 @@ fn unpark_nobody<R: Wait>(lot: &ParkingLot<R>, times: u32) {
     }
 }
 
-/// Looks whether each line was answered as it must be.
-fn judge(rt: &impl Abort, name: &str, verdicts: &[Verdict]) {
-    for (thread, verdict) in verdicts.iter().enumerate() {
-        if let Some(line) = verdict {
-            assert!(rt; false, "{name}: thread {thread}, line {line}");
-        }
-    }
-}
-
 /// What is to happen at a lock: rounds, or where there are none a play.
 #[derive(Clone, Copy)]
 struct Plan<'p> {
@@ -286,7 +319,7 @@ struct Plan<'p> {
 }
 
 /// What has happened at a lock: which line was answered otherwise, what was added and read, and the count in the end.
-#[derive(Drop)]
+#[derive(Clone, Copy)]
 struct Outcome {
     verdicts: [Verdict; 4],
     tally: Tally,
@@ -412,86 +445,89 @@ fn at_new<'s, 'l, R: Wait + Threads + Clock + Sync>(
     }
 }
 
-/// Has it happen on a new lot, at a new lock whose word must be 0 in the end.
-fn staged<R: Wait + Threads + Clock + Abort + Sync + Copy + Drop>(
+/// Has it happen on those lots, at a new lock. Answers the lock's word in the end, too.
+fn on_lots<'l, R: Wait + Threads + Clock + Sync>(
+    rt: &R,
+    alloc: Global,
+    lots: (&'l ParkingLot<R>, &ParkingLot<R>),
+    kind: Kind,
+    plan: Plan,
+) -> Result<(Outcome, Option<u64>), Fail> {
+    let table = LockTable::new(alloc, lots.0, 1)?;
+    let past = Instant::now(rt)?;
+    let outcome = at_new(rt, &table, lots, kind, past, plan)?;
+    Ok((outcome, table.word(0)))
+}
+
+/// Has it happen on new lots, at a new lock.
+fn staged<R: Wait + Threads + Clock + Sync + Copy + Drop>(
     rt: R,
     alloc: Global,
-    name: &str,
     setting: Setting,
     plan: Plan,
-) -> Result<Outcome, Fail> {
+) -> Result<(Outcome, Option<u64>), Fail> {
     let own = ParkingLot::new(rt, alloc, 8, 7)?;
     let others = ParkingLot::new(rt, alloc, 8, setting.lot)?;
     unpark_nobody(&own, setting.unparks);
-    let table = LockTable::new(alloc, &own, 1)?;
-    let past = Instant::now(&rt)?;
-    let outcome = if setting.lot == 7 {
-        at_new(&rt, &table, (&own, &own), setting.kind, past, plan)?
+    if setting.lot == 7 {
+        on_lots(&rt, alloc, (&own, &own), setting.kind, plan)
     } else {
-        at_new(&rt, &table, (&own, &others), setting.kind, past, plan)?
-    };
-    assert!(rt; table.word(0) == Some(0), "{name}: the word in the end");
-    Ok(outcome)
+        on_lots(&rt, alloc, (&own, &others), setting.kind, plan)
+    }
 }
 
-/// Has four threads make the rounds so many times at a new lock of that kind. It answers what they have added, which
-/// must be the count.
-pub fn crowd<R: Wait + Threads + Clock + Abort + Sync + Copy + Drop>(
-    rt: R,
-    alloc: Global,
-    name: &str,
-    kind: Kind,
-    rounds: &[Round],
-    times: u32,
-) -> Result<u64, Fail> {
-    let plan = Plan {
-        lines: [&[], &[], &[], &[]],
-        rounds,
-        times,
-    };
-    let outcome = staged(rt, alloc, name, on(kind), plan)?;
-    assert!(rt; outcome.tally.right, "{name}: what was read");
-    assert!(rt; outcome.said == outcome.tally.added, "{name}: the count");
-    Ok(outcome.tally.added)
+/// Looks whether the word is 0 in the end, and each line was answered as it must be.
+fn judge(rt: &impl Abort, name: &str, word: Option<u64>, verdicts: &[Verdict]) {
+    assert!(rt; word == Some(0), "{name}: the word in the end");
+    for (thread, verdict) in verdicts.iter().enumerate() {
+        if let Some(line) = verdict {
+            assert!(rt; false, "{name}: thread {thread}, line {line}");
+        }
+    }
 }
 
-/// Plays at a new lock, whose word must be 0 in the end.
-pub fn play<R: Wait + Threads + Clock + Abort + Sync + Copy + Drop>(
+/// Plays each at a new lock, whose word must be 0 in the end.
+pub fn play_each<R: Wait + Threads + Clock + Abort + Sync + Copy + Drop>(
     rt: R,
     alloc: Global,
-    name: &str,
-    setting: Setting,
-    lines: Lines,
+    plays: &[Play],
 ) -> Result<(), Fail> {
-    let plan = Plan {
-        lines,
-        rounds: &[],
-        times: 0,
-    };
-    let outcome = staged(rt, alloc, name, setting, plan)?;
-    judge(&rt, name, &outcome.verdicts);
+    for play in plays {
+        let plan = Plan {
+            lines: play.lines,
+            rounds: &[],
+            times: 0,
+        };
+        let (outcome, word) = staged(rt, alloc, play.setting, plan)?;
+        judge(&rt, play.name, word, &outcome.verdicts);
+    }
     Ok(())
 }
 
-/// Has one thread follow the lines at a new lock.
-pub fn alone<R: Wait + Threads + Clock + Abort + Sync + Copy + Drop>(
-    rt: R,
-    alloc: Global,
-    name: &str,
-    setting: Setting,
-    lines: &[Line],
-) -> Result<(), Fail> {
-    play(rt, alloc, name, setting, [lines, &[], &[], &[]])
+/// Looks whether what was added is the count, and as much as is to be.
+fn judge_crowd(rt: &impl Abort, crowd: &Crowd, outcome: Outcome) {
+    let name = crowd.name;
+    let added = outcome.tally.added;
+    assert!(rt; outcome.tally.right, "{name}: what was read");
+    assert!(rt; outcome.said == added, "{name}: the count");
+    assert!(rt; (crowd.least <= added) & (added <= crowd.most), "{name}: {added} were added");
 }
 
-/// Has two threads follow their lines at a new lock.
-pub fn pair<R: Wait + Threads + Clock + Abort + Sync + Copy + Drop>(
+/// Has each crowd make its rounds at a new lock, whose word must be 0 in the end.
+pub fn crowd_each<R: Wait + Threads + Clock + Abort + Sync + Copy + Drop>(
     rt: R,
     alloc: Global,
-    name: &str,
-    setting: Setting,
-    first: &[Line],
-    second: &[Line],
+    crowds: &[Crowd],
 ) -> Result<(), Fail> {
-    play(rt, alloc, name, setting, [first, second, &[], &[]])
+    for crowd in crowds {
+        let plan = Plan {
+            lines: [&[], &[], &[], &[]],
+            rounds: crowd.rounds,
+            times: crowd.times,
+        };
+        let (outcome, word) = staged(rt, alloc, on!(crowd.kind), plan)?;
+        judge(&rt, crowd.name, word, &[]);
+        judge_crowd(&rt, crowd, outcome);
+    }
+    Ok(())
 }
