@@ -1,12 +1,14 @@
 //! A hundred thousand notifications between four threads, of which none may be lost: else a thread waits for ever.
 
+use crate::lots::{Trial, goes_on_table};
 use lock_api::{Condvar, Mutex, TableFull};
-use parking_lot_core::ParkingLot;
 use parking_lot_mutex::condvar::RawCondvar;
 use parking_lot_mutex::{LockTable, RawMutex};
+use std::alloc::Global;
 use std::sync::Wait;
 use std::test::Fail;
 use std::thread;
+use std::thread::Threads;
 
 /// How often each thread hands something over, or takes it.
 const ROUNDS: u32 = 25_000;
@@ -59,14 +61,30 @@ fn turns<'t, 'l, R: Wait>(shared: &Shared<'t, 'l, R>, gives: bool) -> u64 {
     done
 }
 
+/// How often one thread that hands over and one that takes have done so.
+fn two<R: Wait + Threads + Sync>(rt: &R, shared: &Shared<'_, '_, R>) -> (u64, u64) {
+    thread::join(rt, || turns(shared, true), || turns(shared, false))
+}
+
+/// Whether four threads have done so as often as each is to.
+fn is_none_lost<R: Wait + Threads + Sync>(rt: &R, shared: &Shared<'_, '_, R>) -> bool {
+    let done = thread::join(rt, || two(rt, shared), || two(rt, shared));
+    done == ((25_000, 25_000), (25_000, 25_000))
+}
+
+/// Four threads that hand over and take.
+#[derive(Clone, Copy)]
+struct Counted;
+
+impl<R: Wait + Threads + Sync> Trial<R> for Counted {
+    fn goes(self, rt: &R, _alloc: Global, table: &LockTable<'_, R>) -> Result<bool, Fail> {
+        let shared = Shared::on(table)?;
+        Ok(is_none_lost(rt, &shared))
+    }
+}
+
 #[test]
 fn no_notification_is_lost(rt: HostRuntime) -> Result<(), Fail> {
-    let lot = ParkingLot::new(rt, rt.alloc(), 4, 7)?;
-    let table = LockTable::new(rt.alloc(), &lot, 3)?;
-    let shared = Shared::on(&table)?;
-    let two = || thread::join(&rt, || turns(&shared, true), || turns(&shared, false));
-    let done = thread::join(&rt, two, two) == ((25_000, 25_000), (25_000, 25_000));
-    let are_free = (table.word(0) == Some(0)) & (table.word(1) == Some(0));
-    assert!(rt; done & are_free & (table.word(2) == Some(0)));
+    assert!(rt; goes_on_table(rt, rt.alloc(), 4, 3, Counted)? == (true, true));
     Ok(())
 }

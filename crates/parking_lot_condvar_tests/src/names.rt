@@ -1,7 +1,8 @@
 //! Each name of a lock, of a guard and of what stands beside them stands in a signature, and each lock is made, taken
 //! and given back.
 
-use lock_api::{Guard, Mapped};
+use crate::lots::{Trial, goes_on_table};
+use lock_api::{Guard, Mapped, TableFull};
 use lock_api_guards::{Hold, Lender, LenderMut};
 use lock_api_raw::{GetThreadId as _, MakeLock as _};
 use parking_lot::{
@@ -13,7 +14,8 @@ use parking_lot::{
     ReentrantMutex, ReentrantMutexGuard, RwLock, RwLockReadGuard, RwLockUpgradableReadGuard,
     RwLockWriteGuard, WaitTimeoutResult,
 };
-use parking_lot_core::{ParkingLot, ThreadData};
+use parking_lot_core::ThreadData;
+use std::alloc::Global;
 use std::sync::Wait;
 use std::test::Fail;
 use std::time::{Clock, Duration};
@@ -136,18 +138,17 @@ fn upgradable<'m, 't, 'l, R: Wait>(
     lock.upgradable_read(me)
 }
 
-/// A reader-writer lock is written, then read and reviewed, and given back. Its word lies in the row.
+/// A reader-writer lock is written, then read and reviewed, and given back. Its word lies in the first row.
 fn is_read_and_written<R: Wait>(
     lock: RwLock<'_, '_, Two, R>,
     table: &LockTable<'_, R>,
-    row: usize,
     me: &mut ThreadData,
 ) -> bool {
     let write = narrowed_writer(lock.write(me));
-    let changed = changes_first(write, &|| table.word(row) == Some(8));
+    let changed = changes_first(write, &|| table.word(0) == Some(8));
     let review = upgradable(&lock, me);
     let read = narrowed_reader(lock.read(me));
-    let are_read = read_together(&review, read, (5, 2), &|| table.word(row) == Some(36));
+    let are_read = read_together(&review, read, (5, 2), &|| table.word(0) == Some(36));
     drop(review);
     changed & are_read & !lock.is_locked() & (lock.into_inner() == (5, 2))
 }
@@ -174,51 +175,74 @@ fn recursive_upgradable<'m, 't, 'l, R: Wait>(
     lock.upgradable_read(me)
 }
 
-/// A recursive lock is written, then read and reviewed, and given back. Its word lies in the row.
+/// A recursive lock is written, then read and reviewed, and given back. Its word lies in the first row.
 fn is_recursive_read_and_written<R: Wait>(
     lock: RecursiveRwLock<'_, '_, Two, R>,
     table: &LockTable<'_, R>,
-    row: usize,
     me: &mut ThreadData,
 ) -> bool {
     let write = recursive_narrowed_writer(lock.write(me));
-    let changed = changes_first(write, &|| table.word(row) == Some(8));
+    let changed = changes_first(write, &|| table.word(0) == Some(8));
     let review = recursive_upgradable(&lock, me);
     let read = recursive_narrowed_reader(lock.read(me));
-    let are_read = read_together(&review, read, (5, 2), &|| table.word(row) == Some(36));
+    let are_read = read_together(&review, read, (5, 2), &|| table.word(0) == Some(36));
     drop(review);
     changed & are_read & !lock.is_locked() & (lock.into_inner() == (5, 2))
 }
 
+/// Which lock is made, taken and given back.
+#[derive(Clone, Copy)]
+enum Lock {
+    Mutex,
+    Fair,
+    ReadWrite,
+    Recursive,
+    Reentrant,
+}
+
+/// A reentrant mutex of two holds is taken, and gives its number up as it was.
+fn is_nested<R: Wait>(nested: ReentrantMutex<'_, '_, Two, R>, me: &mut ThreadData) -> bool {
+    is_taken_twice(&nested, me) & (nested.into_inner() == (1, 2))
+}
+
+impl Lock {
+    /// Makes it on the first row of a table.
+    fn goes_for<R: Wait>(
+        self,
+        rows: &LockTable<'_, R>,
+        me: &mut ThreadData,
+    ) -> Result<bool, TableFull> {
+        match self {
+            Lock::Mutex => Ok(is_mutex_taken(Mutex::new(rows, (1, 2))?, me)),
+            Lock::Fair => Ok(is_fair_mutex_taken(FairMutex::new(rows, (1, 2))?, me)),
+            Lock::ReadWrite => Ok(is_read_and_written(RwLock::new(rows, 4, (1, 2))?, rows, me)),
+            Lock::Recursive => {
+                let lock = RecursiveRwLock::new(rows, 4, (1, 2))?;
+                Ok(is_recursive_read_and_written(lock, rows, me))
+            }
+            Lock::Reentrant => Ok(is_nested(ReentrantMutex::new(rows, 2, (1, 2))?, me)),
+        }
+    }
+}
+
+impl<R: Wait> Trial<R> for Lock {
+    fn goes(self, _rt: &R, _alloc: Global, rows: &LockTable<'_, R>) -> Result<bool, Fail> {
+        let mut me = rows.lot().thread_data()?;
+        Ok(self.goes_for(rows, &mut me)?)
+    }
+}
+
 #[test]
 fn locks_are_taken_and_given_back(rt: HostRuntime) -> Result<(), Fail> {
-    let lot = ParkingLot::new(rt, rt.alloc(), 1, 7)?;
-    let mut me = lot.thread_data()?;
-    let table = LockTable::new(rt.alloc(), &lot, 5)?;
-    let rows = &table;
-    assert!(rt;
-        is_mutex_taken(Mutex::new(rows, (1, 2))?, &mut me),
-        "the mutex"
-    );
-    assert!(rt;
-        is_fair_mutex_taken(FairMutex::new(rows, (1, 2))?, &mut me),
-        "the fair mutex"
-    );
-    let lock = RwLock::new(rows, 4, (1, 2))?;
-    assert!(rt; is_read_and_written(lock, rows, 2, &mut me), "the lock");
-    let lock = RecursiveRwLock::new(rows, 4, (1, 2))?;
-    assert!(rt;
-        is_recursive_read_and_written(lock, rows, 3, &mut me),
-        "the recursive lock"
-    );
-    let nested = ReentrantMutex::new(rows, 2, (1, 2))?;
-    assert!(rt; is_taken_twice(&nested, &mut me), "the reentrant mutex");
-    assert!(rt;
-        nested.into_inner() == (1, 2),
-        "the reentrant mutex in the end"
-    );
-    for row in 0..5 {
-        assert!(rt; table.word(row) == Some(0), "row {row}");
+    for (name, lock) in [
+        ("the mutex", Lock::Mutex),
+        ("the fair mutex", Lock::Fair),
+        ("the lock", Lock::ReadWrite),
+        ("the recursive lock", Lock::Recursive),
+        ("the reentrant mutex", Lock::Reentrant),
+    ] {
+        let went = goes_on_table(rt, rt.alloc(), 1, 1, lock)?;
+        assert!(rt; went == (true, true), "{name}");
     }
     Ok(())
 }
@@ -261,6 +285,20 @@ fn waits<'t, 'l, R: Wait, C: Clock>(
         .ok()
 }
 
+/// Whether such a wait runs out, with nobody to be notified and the mutex free.
+fn runs_out<'t, 'l, R: Wait, C: Clock>(
+    clock: &C,
+    condvar: &Condvar<'t, 'l, R>,
+    mutex: &Mutex<'t, 'l, u64, R>,
+    me: &mut ThreadData,
+) -> bool {
+    let ran_out = match waits(clock, condvar, mutex, me) {
+        Some(result) => result.timed_out(),
+        None => false,
+    };
+    ran_out & !condvar.notify_one() & !mutex.is_locked()
+}
+
 /// Fails a once, and answers how the call ended, and a wait behind it.
 fn fails<R: Wait>(
     once: &Once<'_, '_, R>,
@@ -270,34 +308,99 @@ fn fails<R: Wait>(
     (ended, once.wait(me))
 }
 
+/// Whether it fails, and is poisoned then.
+fn is_poisoned<R: Wait>(once: &Once<'_, '_, R>, me: &mut ThreadData) -> bool {
+    let (ended, waited) = fails(once, me);
+    let has_failed = matches!(ended, Err(OnceFault::Failed(5))) & (waited == Err(Poisoned));
+    has_failed & (once.state() == OnceState::Poisoned)
+}
+
+/// Whether a forced call runs it.
+fn is_run<R: Wait>(once: &Once<'_, '_, R>, me: &mut ThreadData) -> bool {
+    let ended = once.call_once_force(me, |_before| Ok::<(), u8>(()));
+    ended.is_ok() & (once.state() == OnceState::Done)
+}
+
+/// Whether raw mutexes are taken and given back.
+fn are_taken<R: Wait>(rows: &LockTable<'_, R>, me: &mut ThreadData) -> Result<bool, TableFull> {
+    let plain: RawMutex<'_, '_, R> = RawMutex::new(rows, 1)?;
+    let fair: RawFairMutex<'_, '_, R> = RawFairMutex::new(rows, 1)?;
+    Ok(is_taken(&plain, me) & is_taken(&fair, me))
+}
+
+/// The same of raw reader-writer locks.
+fn are_taken_by_each<R: Wait>(
+    rows: &LockTable<'_, R>,
+    me: &mut ThreadData,
+) -> Result<bool, TableFull> {
+    let lock: RawRwLock<'_, '_, R, 0> = RawRwLock::new(rows, 1)?;
+    let recursive: RawRwLockRecursive<'_, '_, R> = RawRwLockRecursive::new(rows, 1)?;
+    Ok(is_taken_by_each(&lock, me) & is_taken_by_each(&recursive, me))
+}
+
+/// Whether a condition variable lets a wait run out.
+fn is_waited_with<R: Wait + Clock>(
+    rt: &R,
+    rows: &LockTable<'_, R>,
+    me: &mut ThreadData,
+) -> Result<bool, TableFull> {
+    let condvar: Condvar<'_, '_, R> = Condvar::new(rows)?;
+    let mutex: Mutex<'_, '_, u64, R> = Mutex::new(rows, 0)?;
+    Ok(runs_out(rt, &condvar, &mutex, me))
+}
+
+/// Whether a once fails and is mended.
+fn is_mended<R: Wait>(rows: &LockTable<'_, R>, me: &mut ThreadData) -> Result<bool, TableFull> {
+    let once: Once<'_, '_, R> = Once::new(rows)?;
+    Ok(is_poisoned(&once, me) & is_run(&once, me))
+}
+
+/// What stands on rows of a table, or beside them.
+#[derive(Clone, Copy)]
+enum Raw {
+    ThreadIds,
+    Mutexes,
+    Locks,
+    Condvar,
+    Once,
+}
+
+impl Raw {
+    /// Makes it on a table.
+    fn goes_for<R: Wait + Clock>(
+        self,
+        rt: &R,
+        rows: &LockTable<'_, R>,
+        me: &mut ThreadData,
+    ) -> Result<bool, TableFull> {
+        match self {
+            Raw::ThreadIds => Ok(RawThreadId::new().nonzero_thread_id(me).get() == 1),
+            Raw::Mutexes => are_taken(rows, me),
+            Raw::Locks => are_taken_by_each(rows, me),
+            Raw::Condvar => is_waited_with(rt, rows, me),
+            Raw::Once => is_mended(rows, me),
+        }
+    }
+}
+
+impl<R: Wait + Clock> Trial<R> for Raw {
+    fn goes(self, rt: &R, _alloc: Global, rows: &LockTable<'_, R>) -> Result<bool, Fail> {
+        let mut me = rows.lot().thread_data()?;
+        Ok(self.goes_for(rt, rows, &mut me)?)
+    }
+}
+
 #[test]
 fn raw_locks_are_taken_and_what_stands_beside_them(rt: HostRuntime) -> Result<(), Fail> {
-    let lot = ParkingLot::new(rt, rt.alloc(), 1, 7)?;
-    let mut me = lot.thread_data()?;
-    let table = LockTable::new(rt.alloc(), &lot, 7)?;
-    let rows = &table;
-    let ids: RawThreadId = RawThreadId::new();
-    assert!(rt; ids.nonzero_thread_id(&me).get() == 1);
-    let plain: RawMutex<HostRuntime> = RawMutex::new(rows, 1)?;
-    let fair: RawFairMutex<HostRuntime> = RawFairMutex::new(rows, 1)?;
-    assert!(rt; is_taken(&plain, &mut me) & is_taken(&fair, &mut me));
-    let lock: RawRwLock<HostRuntime, 0> = RawRwLock::new(rows, 1)?;
-    let recursive: RawRwLockRecursive<HostRuntime> = RawRwLockRecursive::new(rows, 1)?;
-    assert!(rt; is_taken_by_each(&lock, &mut me) & is_taken_by_each(&recursive, &mut me));
-    let condvar: Condvar<HostRuntime> = Condvar::new(rows)?;
-    let mutex: Mutex<u64, HostRuntime> = Mutex::new(rows, 0)?;
-    let ran_out = match waits(&rt, &condvar, &mutex, &mut me) {
-        Some(result) => result.timed_out(),
-        None => false,
-    };
-    assert!(rt; ran_out & !condvar.notify_one() & !mutex.is_locked());
-    let once: Once<HostRuntime> = Once::new(rows)?;
-    let (ended, waited) = fails(&once, &mut me);
-    let has_failed = matches!(ended, Err(OnceFault::Failed(5))) & (waited == Err(Poisoned));
-    let is_poisoned = once.state() == OnceState::Poisoned;
-    let is_run = once
-        .call_once_force(&mut me, |_before| Ok::<(), u8>(()))
-        .is_ok();
-    assert!(rt; has_failed & is_poisoned & is_run & (once.state() == OnceState::Done));
+    for (name, raw) in [
+        ("thread ids", Raw::ThreadIds),
+        ("mutexes", Raw::Mutexes),
+        ("reader-writer locks", Raw::Locks),
+        ("a condition variable", Raw::Condvar),
+        ("a once", Raw::Once),
+    ] {
+        let (well, _are_free) = goes_on_table(rt, rt.alloc(), 1, 2, raw)?;
+        assert!(rt; well, "{name}");
+    }
     Ok(())
 }

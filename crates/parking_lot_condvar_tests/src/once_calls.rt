@@ -1,108 +1,127 @@
-//! Calls that are told one thing after another.
+//! Calls of a once that are told one thing after another.
 
 use parking_lot_driver::{Act, ActResult, CoreAnswer, SectionAct, WordChange};
 use parking_lot_protocol_waits::once::{OnceAnswer, OnceCore, OnceState};
-use std::test::Fail;
 
-/// Whether a core that is told these, one after another, asks for those acts.
-fn asks(mut core: OnceCore, script: &[(ActResult, Act)]) -> (bool, Option<OnceAnswer>) {
+/// What a call is told, and what it must ask for.
+type Line = (ActResult, Act);
+
+/// Which call is told something.
+#[derive(Clone, Copy)]
+enum Call {
+    Once,
+    /// The end of a closure that has failed.
+    Failed,
+    Wait,
+    WaitForce,
+}
+
+/// A call that was told nothing yet.
+fn new(call: Call) -> OnceCore {
+    match call {
+        Call::Once => OnceCore::call_once(),
+        Call::Failed => OnceCore::finish(false),
+        Call::Wait => OnceCore::wait(),
+        Call::WaitForce => OnceCore::wait_force(),
+    }
+}
+
+/// Whether a call that is told these, one after another, asks for those acts, and what it answers in the end.
+fn asks(call: Call, lines: &[Line]) -> (bool, Option<OnceAnswer>) {
+    let mut core = new(call);
     let mut ok = true;
-    for (seen, act) in script {
+    for (seen, act) in lines {
         ok = ok & (core.next(*seen) == *act);
     }
     (ok, core.answer())
 }
 
-#[test]
-fn a_call_runs_a_new_one(rt: HostRuntime) -> Result<(), Fail> {
-    let told = asks(
-        OnceCore::call_once(),
-        &[
-            (ActResult::Start, Act::Load),
-            (ActResult::Word(0), Act::Exchange(0, 4)),
-            (ActResult::Word(8), Act::Exchange(8, 12)),
-            (ActResult::Exchanged, Act::Done(CoreAnswer::Owned)),
-        ],
-    );
-    assert!(rt; told == (true, Some(OnceAnswer::Runs(OnceState::New))));
-    Ok(())
-}
+/// A call runs a new one.
+const RUNS: &[Line] = &[
+    (ActResult::Start, Act::Load),
+    (ActResult::Word(0), Act::Exchange(0, 4)),
+    (ActResult::Word(8), Act::Exchange(8, 12)),
+    (ActResult::Exchanged, Act::Done(CoreAnswer::Owned)),
+];
 
-#[test]
-fn a_call_waits_beside_a_closure(rt: HostRuntime) -> Result<(), Fail> {
-    let told = asks(
-        OnceCore::call_once(),
-        &[
-            (ActResult::Start, Act::Load),
-            (ActResult::Word(4), Act::Spin),
-            (ActResult::Spun(false), Act::Exchange(4, 12)),
-            (ActResult::Exchanged, Act::Enter(0)),
-            (ActResult::Entered, Act::Section(SectionAct::Check)),
-            (ActResult::Word(1), Act::Section(SectionAct::Leave)),
-            (ActResult::Made, Act::Load),
-            (ActResult::Word(1), Act::Done(CoreAnswer::Refused)),
-        ],
-    );
-    assert!(rt; told == (true, Some(OnceAnswer::Completed)));
-    Ok(())
-}
+/// A call waits beside a closure.
+const WAITS: &[Line] = &[
+    (ActResult::Start, Act::Load),
+    (ActResult::Word(4), Act::Spin),
+    (ActResult::Spun(false), Act::Exchange(4, 12)),
+    (ActResult::Exchanged, Act::Enter(0)),
+    (ActResult::Entered, Act::Section(SectionAct::Check)),
+    (ActResult::Word(1), Act::Section(SectionAct::Leave)),
+    (ActResult::Made, Act::Load),
+    (ActResult::Word(1), Act::Done(CoreAnswer::Refused)),
+];
 
-#[test]
-fn an_end_takes_all_and_wakes_them(rt: HostRuntime) -> Result<(), Fail> {
-    let failed = WordChange { keep: 0, add: 2 };
-    let told = asks(
-        OnceCore::finish(false),
-        &[
-            (ActResult::Start, Act::Exchange(4, 2)),
-            (ActResult::Word(12), Act::Enter(0)),
-            (ActResult::Entered, Act::Section(SectionAct::TakeNext(0))),
-            (taken(true), Act::Section(SectionAct::TakeNext(0))),
-            (
-                taken(false),
-                Act::Section(SectionAct::Store {
-                    plain: failed,
-                    fair: failed,
-                }),
-            ),
-            (
-                ActResult::Stored { fair: true },
-                Act::Section(SectionAct::Leave),
-            ),
-            (ActResult::Made, Act::Section(SectionAct::Wake)),
-            (ActResult::Made, Act::Section(SectionAct::Wake)),
-            (ActResult::Made, Act::Done(CoreAnswer::Released)),
-        ],
-    );
-    assert!(rt; told == (true, Some(OnceAnswer::Finished)));
-    Ok(())
-}
+/// What an end that failed stores.
+const FAILED: WordChange = WordChange { keep: 0, add: 2 };
 
 /// One waiter was taken, and others are left or not.
-fn taken(left: bool) -> ActResult {
-    ActResult::Took {
-        token: Some(parking_lot_core::DEFAULT_PARK_TOKEN),
-        left,
-    }
+macro_rules! took {
+    ($left:expr) => {
+        ActResult::Took {
+            token: Some(parking_lot_core::DEFAULT_PARK_TOKEN),
+            left: $left,
+        }
+    };
 }
 
+/// An end takes all and wakes them.
+const ENDS: &[Line] = &[
+    (ActResult::Start, Act::Exchange(4, 2)),
+    (ActResult::Word(12), Act::Enter(0)),
+    (ActResult::Entered, Act::Section(SectionAct::TakeNext(0))),
+    (took!(true), Act::Section(SectionAct::TakeNext(0))),
+    (
+        took!(false),
+        Act::Section(SectionAct::Store {
+            plain: FAILED,
+            fair: FAILED,
+        }),
+    ),
+    (
+        ActResult::Stored { fair: true },
+        Act::Section(SectionAct::Leave),
+    ),
+    (ActResult::Made, Act::Section(SectionAct::Wake)),
+    (ActResult::Made, Act::Section(SectionAct::Wake)),
+    (ActResult::Made, Act::Done(CoreAnswer::Released)),
+];
+
+/// What no act gives has no answer.
+const TOLD_ODDLY: &[Line] = &[
+    (ActResult::Start, Act::Load),
+    (ActResult::Made, Act::Done(CoreAnswer::Refused)),
+];
+
+/// Nor has a call that has only begun to sleep.
+const SLEEPS: &[Line] = &[
+    (ActResult::Start, Act::Load),
+    (ActResult::Word(2), Act::Spin),
+    (ActResult::Spun(true), Act::Load),
+    (ActResult::Word(10), Act::Enter(0)),
+];
+
+/// What calls are told, and answer in the end.
+const CALLS: &[(&'static str, Call, &'static [Line], Option<OnceAnswer>)] = &[
+    (
+        "runs",
+        Call::Once,
+        RUNS,
+        Some(OnceAnswer::Runs(OnceState::New)),
+    ),
+    ("waits", Call::Once, WAITS, Some(OnceAnswer::Completed)),
+    ("ends", Call::Failed, ENDS, Some(OnceAnswer::Finished)),
+    ("told oddly", Call::Wait, TOLD_ODDLY, None),
+    ("sleeps", Call::WaitForce, SLEEPS, None),
+];
+
 #[test]
-fn what_no_act_gives_has_no_answer(rt: HostRuntime) -> Result<(), Fail> {
-    let told = asks(
-        OnceCore::wait(),
-        &[
-            (ActResult::Start, Act::Load),
-            (ActResult::Made, Act::Done(CoreAnswer::Refused)),
-        ],
-    );
-    let forced = asks(
-        OnceCore::wait_force(),
-        &[
-            (ActResult::Start, Act::Load),
-            (ActResult::Word(2), Act::Spin),
-            (ActResult::Spun(true), Act::Load),
-            (ActResult::Word(10), Act::Enter(0)),
-        ],
-    );
-    assert!(rt; (told == (true, None)) & (forced == (true, None)));
-    Ok(())
+fn calls_ask_for_what_they_must(rt: HostRuntime) {
+    for (name, call, lines, answer) in CALLS {
+        assert!(rt; asks(*call, lines) == (true, *answer), "{name}");
+    }
 }

@@ -1,6 +1,6 @@
 //! Plays at a once.
 
-use crate::once_stage::{Answer, End, Ended, Line, Made, Meanwhile, Ran, Step, play};
+use crate::once_stage::{Answer, End, Ended, Line, Meanwhile, Play, Ran, Step, play, play_each};
 use parking_lot_mutex::once::OnceState::{Done, InProgress, New, Poisoned};
 use std::test::Fail;
 
@@ -70,14 +70,17 @@ const COMPLETED: &[Line] = &[(CALL_THAT_FAILS, LEFT_OUT), IS_DONE];
 /// A closure sees that it runs.
 const SEEN: &[Line] = &[(Step::Call(End::Well, Meanwhile::Shows(InProgress, 4)), RUN)];
 
+const OF_ONE: &[Play] = &[
+    play!("once", New, 7, ONCE, &[]),
+    play!("poisoned", New, 7, POISONED, &[]),
+    play!("forced", ByDefault, 7, FORCED, &[]),
+    play!("completed", Completed, 7, COMPLETED, &[]),
+    play!("seen", New, 7, SEEN, &[]),
+];
+
 #[test]
 fn one_thread_calls(rt: HostRuntime) -> Result<(), Fail> {
-    let alloc = rt.alloc();
-    play(rt, alloc, "once", Made::New, 7, [ONCE, &[]])?;
-    play(rt, alloc, "poisoned", Made::New, 7, [POISONED, &[]])?;
-    play(rt, alloc, "forced", Made::ByDefault, 7, [FORCED, &[]])?;
-    play(rt, alloc, "completed", Made::Completed, 7, [COMPLETED, &[]])?;
-    play(rt, alloc, "seen", Made::New, 7, [SEEN, &[]])
+    play_each(rt, rt.alloc(), OF_ONE)
 }
 
 /// Runs a closure until another thread sleeps beside it.
@@ -100,42 +103,17 @@ const FORCES_BESIDE: &[Line] = &[RUNNING, (FORCE, LEFT_OUT), IS_DONE];
 
 const FORCES_BEHIND: &[Line] = &[RUNNING, (FORCE, RUN_AGAIN), IS_DONE];
 
+const OF_TWO: &[Play] = &[
+    play!("waits", New, 7, RUNS_WELL, WAITS),
+    play!("of another lot", New, 8, RUNS_WELL, WAITS),
+    play!("refused", New, 7, RUNS_AND_FAILS, IS_REFUSED),
+    play!("forces beside", New, 7, RUNS_WELL, FORCES_BESIDE),
+    play!("forces behind", New, 7, RUNS_AND_FAILS, FORCES_BEHIND),
+];
+
 #[test]
 fn a_caller_waits_for_a_closure(rt: HostRuntime) -> Result<(), Fail> {
-    let alloc = rt.alloc();
-    play(rt, alloc, "waits", Made::New, 7, [RUNS_WELL, WAITS])?;
-    play(
-        rt,
-        alloc,
-        "of another lot",
-        Made::New,
-        8,
-        [RUNS_WELL, WAITS],
-    )?;
-    play(
-        rt,
-        alloc,
-        "refused",
-        Made::New,
-        7,
-        [RUNS_AND_FAILS, IS_REFUSED],
-    )?;
-    play(
-        rt,
-        alloc,
-        "forces beside",
-        Made::New,
-        7,
-        [RUNS_WELL, FORCES_BESIDE],
-    )?;
-    play(
-        rt,
-        alloc,
-        "forces behind",
-        Made::New,
-        7,
-        [RUNS_AND_FAILS, FORCES_BEHIND],
-    )
+    play_each(rt, rt.alloc(), OF_TWO)
 }
 
 /// Somebody sleeps before anybody has called.
@@ -186,24 +164,13 @@ const AWAITS_WHATEVER_COMES: &[Line] = &[
     IS_DONE,
 ];
 
+const OF_WAITS: &[Play] = &[
+    play!("awaits", New, 7, RUNS_BEHIND, AWAITS),
+    play!("in vain", New, 7, FAILS_BEHIND, AWAITS_IN_VAIN),
+    play!("mended", New, 7, FAILS_AND_MENDS, AWAITS_WHATEVER_COMES),
+];
+
 #[test]
 fn one_that_waits_is_woken_by_the_end(rt: HostRuntime) -> Result<(), Fail> {
-    let alloc = rt.alloc();
-    play(rt, alloc, "awaits", Made::New, 7, [RUNS_BEHIND, AWAITS])?;
-    play(
-        rt,
-        alloc,
-        "in vain",
-        Made::New,
-        7,
-        [FAILS_BEHIND, AWAITS_IN_VAIN],
-    )?;
-    play(
-        rt,
-        alloc,
-        "mended",
-        Made::New,
-        7,
-        [FAILS_AND_MENDS, AWAITS_WHATEVER_COMES],
-    )
+    play_each(rt, rt.alloc(), OF_WAITS)
 }

@@ -1,6 +1,8 @@
 //! Calls of a once as data: what a thread asks for stands beside what it is to be answered.
 
-use crate::words::has_come;
+use crate::lots::two_lots;
+use crate::words::{has_come, judge};
+use lock_api::TableFull;
 use parking_lot_core::{ParkingLot, ThreadData};
 use parking_lot_driver::LockTable;
 use parking_lot_mutex::once::{Once, OnceFault, OnceState, Poisoned};
@@ -276,32 +278,75 @@ fn played<'s, 't, 'l, R: Wait + Threads + Clock + Sync>(
     follow_together(rt, own, others, &scene, lines)
 }
 
-/// Has two threads follow their lines at a new once, the second as a participant of a lot of that number.
-pub fn play<R: Wait + Threads + Clock + Abort + Sync + Copy + Drop>(
+/// A play: how its once is made, the number of the second thread's lot, and what each thread does.
+#[derive(Clone, Copy)]
+pub struct Play {
+    pub name: &'static str,
+    pub made: Made,
+    pub number: u64,
+    pub lines: [&'static [Line]; 2],
+}
+
+/// A play of two threads, the second as a participant of a lot of that number.
+macro_rules! play {
+    ($name:expr, $made:ident, $number:expr, $first:expr, $second:expr) => {
+        crate::once_stage::Play {
+            name: $name,
+            made: crate::once_stage::Made::$made,
+            number: $number,
+            lines: [$first, $second],
+        }
+    };
+}
+
+pub(crate) use play;
+
+/// A once on a new table.
+fn made<'t, 'l, R>(table: &'t LockTable<'l, R>, made: Made) -> Result<Once<'t, 'l, R>, TableFull> {
+    match made {
+        Made::New => Once::new(table),
+        Made::ByDefault => Once::default(table),
+        Made::Completed => Once::new_completed(table),
+    }
+}
+
+/// Has the threads follow their lines at a new once on the first lot.
+fn on_lots<R: Wait + Threads + Clock + Sync>(
+    rt: &R,
+    alloc: Global,
+    own: &ParkingLot<R>,
+    others: &ParkingLot<R>,
+    play: &Play,
+) -> Result<[Option<usize>; 2], Fail> {
+    let table = LockTable::new(alloc, own, 1)?;
+    let once = made(&table, play.made)?;
+    Ok(played(rt, own, others, &once, &table, play.lines))
+}
+
+/// The same on new lots.
+fn staged<R: Wait + Threads + Clock + Sync + Copy + Drop>(
     rt: R,
     alloc: Global,
-    name: &str,
-    made: Made,
-    number: u64,
-    lines: [&[Line]; 2],
-) -> Result<(), Fail> {
-    let own = ParkingLot::new(rt, alloc, 4, 7)?;
-    let others = ParkingLot::new(rt, alloc, 4, number)?;
-    let table = LockTable::new(alloc, &own, 1)?;
-    let once = match made {
-        Made::New => Once::new(&table)?,
-        Made::ByDefault => Once::default(&table)?,
-        Made::Completed => Once::new_completed(&table)?,
-    };
-    let ended = if number == 7 {
-        played(&rt, &own, &own, &once, &table, lines)
+    play: &Play,
+) -> Result<[Option<usize>; 2], Fail> {
+    let lots = two_lots(rt, alloc)?;
+    let others = if play.number == 7 {
+        &lots.one
     } else {
-        played(&rt, &own, &others, &once, &table, lines)
+        &lots.other
     };
-    for (thread, line) in ended.iter().enumerate() {
-        if let Some(line) = line {
-            assert!(rt; false, "{name}: thread {thread}, line {line}");
-        }
+    on_lots(&rt, alloc, &lots.one, others, play)
+}
+
+/// Plays each at a new once.
+pub fn play_each<R: Wait + Threads + Clock + Abort + Sync + Copy + Drop>(
+    rt: R,
+    alloc: Global,
+    plays: &[Play],
+) -> Result<(), Fail> {
+    for play in plays {
+        let verdicts = staged(rt, alloc, play)?;
+        judge(&rt, play.name, &verdicts);
     }
     Ok(())
 }

@@ -1,6 +1,8 @@
 //! Plays at a condition variable.
 
-use crate::stage::{Answer, Condition, Counter, Form, Line, Long, Step, When, Which, play};
+use crate::stage::{
+    Answer, Condition, Counter, Form, Line, Long, Play, Step, When, Which, play, play_each,
+};
 use std::test::Fail;
 
 /// A mutex is taken, and let go.
@@ -150,14 +152,17 @@ const OF_ANOTHER_LOT: &[Line] = &[
     STRANGE_IS_UNLOCKED,
 ];
 
+const OF_ONE: &[Play] = &[
+    play!("run out", 7, RUN_OUT, &[], &[]),
+    play!("end at once", 7, END_AT_ONCE, &[], &[]),
+    play!("ask once more", 7, ASK_ONCE_MORE, &[], &[]),
+    play!("nobody", 7, NOBODY, &[], &[]),
+    play!("of another lot", 8, &[], &[], OF_ANOTHER_LOT),
+];
+
 #[test]
 fn one_thread_waits(rt: HostRuntime) -> Result<(), Fail> {
-    let alloc = rt.alloc();
-    play(rt, alloc, "run out", 7, [RUN_OUT, &[], &[]])?;
-    play(rt, alloc, "end at once", 7, [END_AT_ONCE, &[], &[]])?;
-    play(rt, alloc, "ask once more", 7, [ASK_ONCE_MORE, &[], &[]])?;
-    play(rt, alloc, "nobody", 7, [NOBODY, &[], &[]])?;
-    play(rt, alloc, "of another lot", 8, [&[], &[], OF_ANOTHER_LOT])
+    play_each(rt, rt.alloc(), OF_ONE)
 }
 
 /// Waits in each form that may run out, and is notified in time. It finds the number of its turn.
@@ -271,12 +276,15 @@ const NOTIFIES_TWO: &[Line] = &[
     notify_all!(0),
 ];
 
+const OF_NOTIFIED: &[Play] = &[
+    play!("in time", 7, IN_TIME, NOTIFIES_EACH, &[]),
+    play!("two mutexes", 7, WITH_BOTH, NOTIFIES_BOTH, &[]),
+    play!("all of two", 7, FINDS_2, FINDS_2, NOTIFIES_TWO),
+];
+
 #[test]
 fn waits_are_notified(rt: HostRuntime) -> Result<(), Fail> {
-    let alloc = rt.alloc();
-    play(rt, alloc, "in time", 7, [IN_TIME, NOTIFIES_EACH, &[]])?;
-    play(rt, alloc, "two mutexes", 7, [WITH_BOTH, NOTIFIES_BOTH, &[]])?;
-    play(rt, alloc, "all of two", 7, [FINDS_2, FINDS_2, NOTIFIES_TWO])
+    play_each(rt, rt.alloc(), OF_NOTIFIED)
 }
 
 /// Waits with the first mutex until it is notified.
@@ -316,10 +324,17 @@ const TRIES_A_STRANGE_ONE: &[Line] = &[
     NOTIFY_ONE,
 ];
 
+const OF_REFUSED: &[Play] = &[play!(
+    "a second mutex",
+    8,
+    WAITS,
+    TRIES_THE_SECOND,
+    TRIES_A_STRANGE_ONE
+)];
+
 #[test]
 fn a_second_mutex_is_refused(rt: HostRuntime) -> Result<(), Fail> {
-    let lines = [WAITS, TRIES_THE_SECOND, TRIES_A_STRANGE_ONE];
-    play(rt, rt.alloc(), "a second mutex", 8, lines)
+    play_each(rt, rt.alloc(), OF_REFUSED)
 }
 
 /// Has the mutex once two wait, notifies one, then all, and lets the mutex go: both are moved, and nobody is woken
@@ -349,15 +364,12 @@ const NOTIFIES_FREELY: &[Line] = &[
     (Step::Counted(Counter::Back, 2), Answer::Yes),
 ];
 
+const OF_MOVED: &[Play] = &[
+    play!("moved", 7, WAITS, WAITS, MOVES_TWO),
+    play!("all at a free mutex", 7, WAITS, WAITS, NOTIFIES_FREELY),
+];
+
 #[test]
 fn waiters_are_moved_or_woken(rt: HostRuntime) -> Result<(), Fail> {
-    let alloc = rt.alloc();
-    play(rt, alloc, "moved", 7, [WAITS, WAITS, MOVES_TWO])?;
-    play(
-        rt,
-        alloc,
-        "all at a free mutex",
-        7,
-        [WAITS, WAITS, NOTIFIES_FREELY],
-    )
+    play_each(rt, rt.alloc(), OF_MOVED)
 }

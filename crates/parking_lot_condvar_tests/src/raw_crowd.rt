@@ -1,17 +1,20 @@
 //! Four threads that take a raw mutex by each of its calls, and give it up by each: nobody else is inside meanwhile.
 ghost use Rattle.std.specs.Prelude.{◌≡◌, IfSome};
 
+use crate::lots::{Trial, goes_on_table};
 use lock_api_raw::{
     MakeCondvar, MakeLock, RawCondvarTimed, RawMutex as Raw, RawMutexFair, RawMutexTimed, TableFull,
 };
-use parking_lot_core::{ParkingLot, ThreadData};
+use parking_lot_core::ThreadData;
 use parking_lot_mutex::condvar::RawCondvar;
 use parking_lot_mutex::{LockTable, RawMutex};
+use std::alloc::Global;
 use std::rt::Clock;
 use std::sync::Wait;
 use std::sync::atomic::{AtomicU64, Ordering};
 use std::test::Fail;
 use std::thread;
+use std::thread::Threads;
 use std::time::{Duration, Instant};
 
 /// How often each thread asks for the mutex.
@@ -111,7 +114,7 @@ where
 }
 
 /// One round. Answers how often it was inside.
-fn goes<'t, 'l, R: Wait + Clock>(
+fn takes_part<'t, 'l, R: Wait + Clock>(
     shared: &Shared<'t, 'l, R>,
     round: usize,
     me: &mut ThreadData,
@@ -136,21 +139,32 @@ fn goes_on<'t, 'l, R: Wait + Clock>(shared: &Shared<'t, 'l, R>) -> u64 {
     };
     let mut inside = 0u64;
     for round in 0..ROUNDS {
-        inside = inside.wrapping_add(goes(shared, round, &mut me));
+        inside = inside.wrapping_add(takes_part(shared, round, &mut me));
     }
     inside
 }
 
+/// How often two threads were inside.
+fn two<R: Wait + Threads + Clock + Sync>(rt: &R, shared: &Shared<'_, '_, R>) -> u64 {
+    let (one, other) = thread::join(rt, || goes_on(shared), || goes_on(shared));
+    one.wrapping_add(other)
+}
+
+/// Four threads that are inside one at a time, and often enough.
+#[derive(Clone, Copy)]
+struct Crowd;
+
+impl<R: Wait + Threads + Clock + Sync> Trial<R> for Crowd {
+    fn goes(self, rt: &R, _alloc: Global, table: &LockTable<'_, R>) -> Result<bool, Fail> {
+        let shared = Shared::on(table)?;
+        let (one, other) = thread::join(rt, || two(rt, &shared), || two(rt, &shared));
+        let inside = one.wrapping_add(other);
+        Ok((shared.sum.load(Ordering::SeqCst) == inside) & (inside >= 20_000))
+    }
+}
+
 #[test]
 fn a_mutex_excludes_by_whatever_call_it_is_taken(rt: HostRuntime) -> Result<(), Fail> {
-    let lot = ParkingLot::new(rt, rt.alloc(), 4, 7)?;
-    let table = LockTable::new(rt.alloc(), &lot, 2)?;
-    let shared = Shared::on(&table)?;
-    let two = || thread::join(&rt, || goes_on(&shared), || goes_on(&shared));
-    let ((a, b), (c, d)) = thread::join(&rt, two, two);
-    let inside = a.wrapping_add(b).wrapping_add(c).wrapping_add(d);
-    let is_alone = shared.sum.load(Ordering::SeqCst) == inside;
-    let are_free = (table.word(0) == Some(0)) & (table.word(1) == Some(0));
-    assert!(rt; is_alone & are_free & (inside >= 20_000));
+    assert!(rt; goes_on_table(rt, rt.alloc(), 4, 2, Crowd)? == (true, true));
     Ok(())
 }

@@ -1,8 +1,8 @@
 //! Calls of a condition variable as data: what a thread asks for stands beside what it is to be answered.
 
-use crate::lots::{two_lots, two_tables};
-use crate::words::{are_counted, has_come};
-use lock_api::{Condvar, Mutex, MutexGuard, WaitFault, WaitTimeoutResult};
+use crate::lots::{Lots, Tables, are_free, two_lots, two_tables};
+use crate::words::{are_counted, has_come, judge};
+use lock_api::{Condvar, Mutex, MutexGuard, TableFull, WaitFault, WaitTimeoutResult};
 use parking_lot_core::{ParkingLot, ThreadData};
 use parking_lot_mutex::condvar::RawCondvar;
 use parking_lot_mutex::{LockTable, RawMutex};
@@ -113,13 +113,19 @@ pub type Line = (Step, Answer);
 /// A mutex of a number.
 type Number<'t, 'l, R> = Mutex<RawMutex<'t, 'l, R>, u64>;
 
+/// Two mutexes on the first table, and one on the other.
+#[derive(Drop)]
+struct Mutexes<'t, 'l, R> {
+    first: Number<'t, 'l, R>,
+    second: Number<'t, 'l, R>,
+    strange: Number<'t, 'l, R>,
+}
+
 /// What threads share.
 #[derive(Drop)]
 struct Scene<'t, 'l, R> {
     condvar: Condvar<RawCondvar<'t, 'l, R>>,
-    first: Number<'t, 'l, R>,
-    second: Number<'t, 'l, R>,
-    strange: Number<'t, 'l, R>,
+    mutexes: Mutexes<'t, 'l, R>,
     table: &'t LockTable<'l, R>,
     about: AtomicU64,
     back: AtomicU64,
@@ -131,9 +137,9 @@ impl<'t, 'l, R> Scene<'t, 'l, R> {
     /// The mutex.
     fn mutex(&self, which: Which) -> &Number<'t, 'l, R> {
         match which {
-            Which::First => &self.first,
-            Which::Second => &self.second,
-            Which::Strange => &self.strange,
+            Which::First => &self.mutexes.first,
+            Which::Second => &self.mutexes.second,
+            Which::Strange => &self.mutexes.strange,
         }
     }
 
@@ -352,43 +358,108 @@ fn follow_together<R: Wait + Threads + Clock + Sync>(
     [one, two, three]
 }
 
-/// Has three threads follow their lines at a new condition variable, the third as a participant of a lot of that
-/// number. All words must be 0 in the end.
-pub fn play<R: Wait + Threads + Clock + Abort + Sync + Copy + Drop>(
-    rt: R,
-    alloc: Global,
-    name: &str,
-    number: u64,
-    lines: [&[Line]; 3],
-) -> Result<(), Fail> {
-    let lots = two_lots(rt, alloc)?;
-    let lots = &lots;
-    let tables = two_tables(alloc, lots)?;
-    let tables = &tables;
-    let now = Instant::now(&rt)?;
-    let scene = Scene {
-        condvar: Condvar::new(&tables.one)?,
+/// Mutexes of 0 on new tables.
+fn mutexes<'t, 'l, R>(tables: &'t Tables<'l, R>) -> Result<Mutexes<'t, 'l, R>, TableFull> {
+    Ok(Mutexes {
         first: Mutex::new(&tables.one, 0)?,
         second: Mutex::new(&tables.one, 0)?,
         strange: Mutex::new(&tables.other, 0)?,
+    })
+}
+
+/// A scene on new tables.
+fn scene_on<'t, 'l, R: Wait + Clock>(
+    rt: &R,
+    tables: &'t Tables<'l, R>,
+) -> Result<Scene<'t, 'l, R>, Fail> {
+    let past = Instant::now(rt)?;
+    Ok(Scene {
+        condvar: Condvar::new(&tables.one)?,
+        mutexes: mutexes(tables)?,
         table: &tables.one,
         about: AtomicU64::new(0),
         back: AtomicU64::new(0),
-        past: now,
-        later: now.checked_add(Duration::from_secs(50)).unwrap_or(now),
-    };
-    let ended = if number == 7 {
-        follow_together(&rt, &lots.one, &lots.one, &scene, lines)
-    } else {
-        follow_together(&rt, &lots.one, &lots.other, &scene, lines)
-    };
-    for (thread, line) in ended.iter().enumerate() {
-        if let Some(line) = line {
-            assert!(rt; false, "{name}: thread {thread}, line {line}");
+        past,
+        later: past.checked_add(Duration::from_secs(50)).unwrap_or(past),
+    })
+}
+
+/// The first line of each thread that is answered otherwise.
+type Verdicts = [Option<usize>; 3];
+
+/// A play: the number of the third thread's lot, and what each thread does.
+#[derive(Clone, Copy)]
+pub struct Play {
+    pub name: &'static str,
+    pub number: u64,
+    pub lines: [&'static [Line]; 3],
+}
+
+/// A play of three threads, the third as a participant of a lot of that number.
+macro_rules! play {
+    ($name:expr, $number:expr, $first:expr, $second:expr, $third:expr) => {
+        crate::stage::Play {
+            name: $name,
+            number: $number,
+            lines: [$first, $second, $third],
         }
+    };
+}
+
+pub(crate) use play;
+
+/// Has the threads follow their lines at a new condition variable.
+fn on_tables<R: Wait + Threads + Clock + Sync>(
+    rt: &R,
+    lots: &Lots<R>,
+    tables: &Tables<'_, R>,
+    play: &Play,
+) -> Result<Verdicts, Fail> {
+    let scene = scene_on(rt, tables)?;
+    let others = if play.number == 7 {
+        &lots.one
+    } else {
+        &lots.other
+    };
+    Ok(follow_together(rt, &lots.one, others, &scene, play.lines))
+}
+
+/// The same on new tables, and whether all words are 0 in the end.
+fn on_lots<R: Wait + Threads + Clock + Sync>(
+    rt: &R,
+    alloc: Global,
+    lots: &Lots<R>,
+    play: &Play,
+) -> Result<(Verdicts, bool), Fail> {
+    let tables = two_tables(alloc, lots)?;
+    let verdicts = on_tables(rt, lots, &tables, play)?;
+    Ok((
+        verdicts,
+        are_free(&tables.one, 3) & are_free(&tables.other, 1),
+    ))
+}
+
+/// The same on new lots.
+fn staged<R: Wait + Threads + Clock + Sync + Copy + Drop>(
+    rt: R,
+    alloc: Global,
+    play: &Play,
+) -> Result<(Verdicts, bool), Fail> {
+    let lots = two_lots(rt, alloc)?;
+    on_lots(&rt, alloc, &lots, play)
+}
+
+/// Plays each at a new condition variable. All words must be 0 in the end.
+pub fn play_each<R: Wait + Threads + Clock + Abort + Sync + Copy + Drop>(
+    rt: R,
+    alloc: Global,
+    plays: &[Play],
+) -> Result<(), Fail> {
+    for play in plays {
+        let (verdicts, are_free) = staged(rt, alloc, play)?;
+        judge(&rt, play.name, &verdicts);
+        let name = play.name;
+        assert!(rt; are_free, "{name}: the words in the end");
     }
-    let are_free = (tables.one.word(0) == Some(0)) & (tables.one.word(1) == Some(0));
-    let are_others = (tables.one.word(2) == Some(0)) & (tables.other.word(0) == Some(0));
-    assert!(rt; are_free & are_others, "{name}: the words in the end");
     Ok(())
 }

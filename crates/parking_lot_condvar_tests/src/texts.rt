@@ -1,13 +1,14 @@
 //! What is shown, and what is refused for want of a row.
 
+use crate::lots::{Trial, goes_on_table};
 use lock_api::Condvar;
 use lock_api_raw::{MakeCondvar as _, TableFull};
-use parking_lot_core::ParkingLot;
 use parking_lot_driver::LockTable;
 use parking_lot_mutex::condvar::RawCondvar;
 use parking_lot_mutex::once::{Once, OnceFault, Poisoned};
 use std::alloc::{AllocError, Global};
 use std::fmt::Debug;
+use std::sync::Wait;
 use std::test::Fail;
 
 /// Whether this is how a thing is shown.
@@ -29,27 +30,54 @@ fn are_refusals_shown(alloc: Global) -> Result<bool, AllocError> {
     Ok(right & (failed.code() == None) & (poisoned.code() == Some(24)) & (Poisoned.code() == 24))
 }
 
-#[test]
-fn texts_and_codes(rt: HostRuntime) -> Result<(), Fail> {
-    let lot = ParkingLot::new(rt, rt.alloc(), 4, 7)?;
-    let table = LockTable::new(rt.alloc(), &lot, 2)?;
-    let once = Once::new(&table)?;
-    let over = Once::new_completed(&table)?;
-    let is_new = is_shown(rt.alloc(), &once, "Once { state: New }");
-    let is_done = is_shown(rt.alloc(), &over, "Once { state: Done }");
-    assert!(rt; is_new & is_done & are_refusals_shown(rt.alloc())?);
-    Ok(())
+/// Whether a once is shown with its state.
+fn are_onces_shown<R>(alloc: Global, table: &LockTable<'_, R>) -> Result<bool, TableFull> {
+    let is_new = is_shown(alloc, &Once::new(table)?, "Once { state: New }");
+    let is_done = is_shown(alloc, &Once::new_completed(table)?, "Once { state: Done }");
+    Ok(is_new & is_done)
+}
+
+/// Whether a condition variable is shown without its words.
+fn is_condvar_shown<R: Wait>(alloc: Global, table: &LockTable<'_, R>) -> Result<bool, TableFull> {
+    let condvar: Condvar<RawCondvar<'_, '_, R>> = Condvar::default(table)?;
+    Ok(is_shown(alloc, &condvar, "Condvar { .. }"))
+}
+
+/// Whether a table that has no row refuses a condition variable and a once.
+fn are_refused<R: Wait>(table: &LockTable<'_, R>) -> bool {
+    let is_full = RawCondvar::new(table).is_err();
+    let is_full_once = Once::new(table).err() == Some(TableFull);
+    is_full & is_full_once & (Once::default(table).err() == Some(TableFull))
+}
+
+/// What is shown, and what is refused.
+#[derive(Clone, Copy)]
+enum Text {
+    Onces,
+    Refusals,
+    /// A condition variable has the one row.
+    FullTable,
+}
+
+impl<R: Wait> Trial<R> for Text {
+    fn goes(self, _rt: &R, alloc: Global, table: &LockTable<'_, R>) -> Result<bool, Fail> {
+        match self {
+            Text::Onces => Ok(are_onces_shown(alloc, table)?),
+            Text::Refusals => Ok(are_refusals_shown(alloc)?),
+            Text::FullTable => Ok(is_condvar_shown(alloc, table)? & are_refused(table)),
+        }
+    }
 }
 
 #[test]
-fn a_full_table_has_no_row(rt: HostRuntime) -> Result<(), Fail> {
-    let lot = ParkingLot::new(rt, rt.alloc(), 1, 7)?;
-    let table = LockTable::new(rt.alloc(), &lot, 1)?;
-    let condvar: Condvar<RawCondvar<HostRuntime>> = Condvar::default(&table)?;
-    let is_full = RawCondvar::new(&table).is_err();
-    let is_full_once = Once::new(&table).err() == Some(TableFull);
-    let is_full_default = Once::default(&table).err() == Some(TableFull);
-    assert!(rt; is_full & is_full_once & is_full_default);
-    assert!(rt; is_shown(rt.alloc(), &condvar, "Condvar { .. }"));
+fn texts_and_codes(rt: HostRuntime) -> Result<(), Fail> {
+    for (name, threads, rows, text) in [
+        ("onces", 4, 2, Text::Onces),
+        ("refusals", 4, 1, Text::Refusals),
+        ("a full table", 1, 1, Text::FullTable),
+    ] {
+        let (well, _are_free) = goes_on_table(rt, rt.alloc(), threads, rows, text)?;
+        assert!(rt; well, "{name}");
+    }
     Ok(())
 }

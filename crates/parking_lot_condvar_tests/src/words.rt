@@ -1,6 +1,7 @@
 //! Looks at the words of a table.
 
 use parking_lot_mutex::LockTable;
+use std::process::Abort;
 use std::sync::atomic::{AtomicU64, Ordering};
 use std::thread;
 use std::time::{Clock, Duration};
@@ -19,11 +20,6 @@ pub fn has_come<C: Clock, R>(clock: &C, table: &LockTable<'_, R>, row: usize, wo
     false
 }
 
-/// Whether the first words of a table are these.
-pub fn are_words<R>(table: &LockTable<'_, R>, words: [u64; 2]) -> bool {
-    (table.word(0) == Some(words[0])) & (table.word(1) == Some(words[1]))
-}
-
 /// Waits until so many have been counted.
 pub fn are_counted<C: Clock>(clock: &C, counted: &AtomicU64, count: u64) -> bool {
     for _turn in 0..TURNS {
@@ -33,4 +29,13 @@ pub fn are_counted<C: Clock>(clock: &C, counted: &AtomicU64, count: u64) -> bool
         thread::sleep(clock, Duration::from_millis(1));
     }
     false
+}
+
+/// Looks whether each line of each thread was answered as it must be.
+pub fn judge(rt: &impl Abort, name: &str, verdicts: &[Option<usize>]) {
+    for (thread, line) in verdicts.iter().enumerate() {
+        if let Some(line) = line {
+            assert!(rt; false, "{name}: thread {thread}, line {line}");
+        }
+    }
 }

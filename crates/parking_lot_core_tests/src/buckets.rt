@@ -1,44 +1,53 @@
 //! Buckets of keys: how many there are, what a growth keeps, and what an open section keeps out.
 
 use crate::script::{
-    Answer, BUSY, Call, FULL, INSIDE, IS, Line, Play, WAITS, WRONG, follow_each, play, took,
+    Answer, BUSY, Call, FULL, IS, Line, Play, WAITS, WRONG, follow_each, stands, took,
 };
 use parking_lot_core::{DEFAULT_PARK_TOKEN, Lot, LotFault, RequeueOp, UnparkToken};
 use refusing_heap::{Case, Heap, Refusal, RefusingHeap, Said, Seen, make_in_turn};
+use std::alloc::Global;
 use std::test::Fail;
 
-/// Registers so many threads, retires some of them, and answers how many buckets there are.
-fn buckets_of(lot: &mut Lot, threads: usize, retired: usize) -> Result<usize, LotFault> {
-    for _thread in 0..threads {
+/// Gives so many numbers out, takes some of them back, and answers how many buckets there are.
+fn buckets_of(lot: &mut Lot, numbers: usize, retired: usize) -> Result<usize, LotFault> {
+    for _number in 0..numbers {
         lot.register()?;
     }
-    for thread in 0..retired {
-        lot.retire(thread)?;
+    for number in 0..retired {
+        lot.retire(number)?;
     }
     Ok(lot.buckets())
 }
 
-#[test]
-fn threads_have_buckets(rt: HostRuntime) -> Result<(), Fail> {
-    for (threads, retired, buckets) in [
-        (0, 0, 16),
-        (1, 0, 16),
-        (5, 0, 16),
-        (6, 0, 32),
-        (6, 5, 32),
-        (256, 0, 1024),
-    ] {
-        let count = buckets_of(&mut Lot::new(rt.alloc(), 256, 7)?, threads, retired)?;
-        assert!(rt; count == buckets, "{threads} threads: {count} buckets");
-    }
-    Ok(())
+/// The same of a new lot, whose threads have two numbers each or one.
+fn new_buckets(alloc: Global, wide: bool, numbers: usize, retired: usize) -> Result<usize, Fail> {
+    let made = if wide {
+        Lot::new_wide(alloc, 512, 7)
+    } else {
+        Lot::new(alloc, 256, 7)
+    };
+    Ok(buckets_of(&mut made?, numbers, retired)?)
 }
 
 #[test]
-fn two_numbers_are_of_one_thread(rt: HostRuntime) -> Result<(), Fail> {
-    for (numbers, buckets) in [(10, 16), (11, 32), (12, 32), (512, 1024)] {
-        let count = buckets_of(&mut Lot::new_wide(rt.alloc(), 512, 7)?, numbers, 0)?;
-        assert!(rt; count == buckets, "{numbers} numbers: {count} buckets");
+fn threads_have_buckets(rt: HostRuntime) -> Result<(), Fail> {
+    for (wide, numbers, retired, buckets) in [
+        (false, 0, 0, 16),
+        (false, 1, 0, 16),
+        (false, 5, 0, 16),
+        (false, 6, 0, 32),
+        (false, 6, 5, 32),
+        (false, 256, 0, 1024),
+        (true, 10, 0, 16),
+        (true, 11, 0, 32),
+        (true, 12, 0, 32),
+        (true, 512, 0, 1024),
+    ] {
+        let count = new_buckets(rt.alloc(), wide, numbers, retired)?;
+        assert!(rt;
+            count == buckets,
+            "{numbers} numbers, wide {wide}: {count} buckets"
+        );
     }
     Ok(())
 }
@@ -75,8 +84,8 @@ const KEPT_OUT: &[Line] = &[
     (Call::UnparkFilter(19, 1), BUSY),
     (Call::ComeBack(2, 19), BUSY),
     (Call::Enter(4, 4), Answer::Done),
-    (Call::Status(3), INSIDE),
-    (Call::Status(4), INSIDE),
+    (Call::Status(3), stands!(InSection)),
+    (Call::Status(4), stands!(InSection)),
     (Call::TakeNext(3), Answer::Taken(Some(0))),
     (Call::Append(4, false), Answer::Done),
     (Call::Store(3, 1), Answer::Done),
@@ -112,18 +121,17 @@ const FULL_FIRST: &[Line] = &[
     (Call::Register, FULL),
 ];
 
+const ALL: RequeueOp = RequeueOp::RequeueAll;
+
 /// A requeue enters two buckets.
 const TWO_ENTERED: &[Line] = &[
     (Call::Enter(3, 4), Answer::Done),
-    (Call::Requeue(3, 4, RequeueOp::RequeueAll), BUSY),
-    (Call::Requeue(3, 20, RequeueOp::RequeueAll), BUSY),
-    (Call::Requeue(20, 3, RequeueOp::RequeueAll), BUSY),
-    (Call::RequeueCounting(3, 20, RequeueOp::RequeueAll), BUSY),
+    (Call::Requeue(3, 4, ALL), BUSY),
+    (Call::Requeue(3, 20, ALL), BUSY),
+    (Call::Requeue(20, 3, ALL), BUSY),
+    (Call::RequeueCounting(3, 20, ALL), BUSY),
     (Call::IsQueue(3, &[0, 1]), IS),
-    (
-        Call::Requeue(3, 19, RequeueOp::RequeueAll),
-        took!(0, 2, false),
-    ),
+    (Call::Requeue(3, 19, ALL), took!(0, 2, false)),
     (Call::IsQueue(3, &[]), IS),
     (Call::IsQueue(19, &[2, 0, 1]), IS),
 ];
@@ -136,7 +144,7 @@ const MOVED_AND_TAKEN: &[Line] = &[
         took!(0, 1, false),
     ),
     (Call::Enter(0, 3), Answer::Done),
-    (Call::TakeMarked(0), Answer::Taken(Some(1))),
+    (Call::TakeNext(0), Answer::Taken(Some(1))),
     (Call::Store(0, 4), Answer::Done),
     (Call::Leave(0), Answer::Done),
     (Call::Deadline(1), Answer::Done),
@@ -157,20 +165,13 @@ const COMES_BACK: &[Line] = &[
     (Call::Leave(1), Answer::Done),
 ];
 
-/// The lot of the fifth has room for five threads.
 const PLAYS: &[Play] = &[
-    play!("grown", 5, ONE_BUCKET, GROWN),
-    play!("kept out", 5, ONE_BUCKET, KEPT_OUT),
-    play!("grown later", 4, ONE_BUCKET, GROWN_LATER),
-    play!("two entered", 5, ONE_BUCKET, TWO_ENTERED),
-    Play {
-        name: "full first",
-        most: 5,
-        threads: 5,
-        before: ONE_BUCKET,
-        script: FULL_FIRST,
-    },
-    play!("comes back", 3, MOVED_AND_TAKEN, COMES_BACK),
+    ("grown", 8, 5, ONE_BUCKET, GROWN),
+    ("kept out", 8, 5, ONE_BUCKET, KEPT_OUT),
+    ("grown later", 8, 4, ONE_BUCKET, GROWN_LATER),
+    ("two entered", 8, 5, ONE_BUCKET, TWO_ENTERED),
+    ("full first", 5, 5, ONE_BUCKET, FULL_FIRST),
+    ("comes back", 8, 3, MOVED_AND_TAKEN, COMES_BACK),
 ];
 
 #[test]

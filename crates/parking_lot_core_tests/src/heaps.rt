@@ -5,7 +5,10 @@ use std::alloc::{AllocError, Allocator, Global};
 use std::test::Fail;
 
 /// What fills the rest of a heap.
-fn filling<A: Allocator + Copy + Drop>(alloc: Global, heap: A) -> Result<Vec<Box<u64, A>>, AllocError> {
+fn filling<A: Allocator + Copy + Drop>(
+    alloc: Global,
+    heap: A,
+) -> Result<Vec<Box<u64, A>>, AllocError> {
     let mut kept = Vec::new(alloc);
     for _block in 0..10_000u32 {
         match Box::new(heap, 0u64) {
@@ -30,33 +33,22 @@ fn are_short<A: Allocator + Copy + Drop>(lot: &Lot<A>) -> bool {
     (lot.queue(5).err() == short) & (lot.resources(0).err() == short)
 }
 
-/// The three park.
-fn park<A: Allocator>(lot: &mut Lot<A>) -> Result<(), LotFault> {
+/// Whether one is woken and two are moved, and then woken.
+fn are_woken<A: Allocator>(lot: &mut Lot<A>) -> Result<bool, LotFault> {
+    let op = || RequeueOp::UnparkOneRequeueRest;
+    let moved = lot.unpark_requeue(5, 6, op, |_, _| UnparkToken(1))?;
+    let woken = lot.unpark_filter(6, |_| FilterOp::Unpark, |_| UnparkToken(2))?;
+    let are_moved = (moved.unparked_threads == 1) & (moved.requeued_threads == 2);
+    Ok(are_moved & (woken.unparked_threads == 2))
+}
+
+/// Whether the three park and all goes well where no memory is left.
+fn go<A: Allocator + Copy + Drop>(lot: &mut Lot<A>) -> Result<bool, LotFault> {
     for thread in 0..3 {
         lot.park(thread, 5, || true, DEFAULT_PARK_TOKEN, false)?;
     }
-    Ok(())
-}
-
-/// Whether one is woken and two are moved.
-fn are_moved<A: Allocator>(lot: &mut Lot<A>) -> Result<bool, LotFault> {
-    let op = || RequeueOp::UnparkOneRequeueRest;
-    let moved = lot.unpark_requeue(5, 6, op, |_, _| UnparkToken(1))?;
-    Ok((moved.unparked_threads == 1) & (moved.requeued_threads == 2))
-}
-
-/// Whether those two are woken.
-fn are_woken<A: Allocator>(lot: &mut Lot<A>) -> Result<bool, LotFault> {
-    let woken = lot.unpark_filter(6, |_| FilterOp::Unpark, |_| UnparkToken(2))?;
-    Ok(woken.unparked_threads == 2)
-}
-
-/// Whether all go well where no memory is left.
-fn go<A: Allocator + Copy + Drop>(lot: &mut Lot<A>) -> Result<bool, LotFault> {
-    park(lot)?;
     let short = are_short(lot);
-    let moved = are_moved(lot)?;
-    Ok(short & moved & are_woken(lot)?)
+    Ok(short & are_woken(lot)?)
 }
 
 /// Whether nobody is left in the list, and the resource is still recorded.
@@ -67,7 +59,11 @@ fn is_left<A: Allocator + Copy + Drop>(lot: &Lot<A>) -> Result<bool, LotFault> {
 }
 
 /// The same calls on a heap that is filled behind the registrations, and emptied in the end.
-fn go_full<A: Allocator + Copy + Drop>(alloc: Global, heap: A, lot: &mut Lot<A>) -> Result<bool, Fail> {
+fn go_full<A: Allocator + Copy + Drop>(
+    alloc: Global,
+    heap: A,
+    lot: &mut Lot<A>,
+) -> Result<bool, Fail> {
     enter(lot)?;
     let full = filling(alloc, heap)?;
     let well = go(lot);

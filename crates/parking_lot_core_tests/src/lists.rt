@@ -1,8 +1,6 @@
 //! What unparks, filters and requeues do with lists.
 
-use crate::script::{
-    Answer, Call, IS, Line, Play, WAITS, follow_each, outcome, play, took, woken,
-};
+use crate::script::{Answer, Call, IS, Line, Play, WAITS, follow_each, outcome, took, woken};
 use parking_lot_core::{
     DEFAULT_PARK_TOKEN, DEFAULT_UNPARK_TOKEN, ParkToken, RequeueOp, UnparkResult, UnparkToken,
 };
@@ -42,12 +40,8 @@ macro_rules! requeued {
     };
 }
 
-const ONE_WOKEN_AND_THE_REST_MOVED: &[Line] = requeued!(
-    UnparkOneRequeueRest,
-    took!(1, 1, false),
-    &[],
-    &[2, 1]
-);
+/// One is woken, and the rest moved or stays.
+const REST_MOVED: &[Line] = requeued!(UnparkOneRequeueRest, took!(1, 1, false), &[], &[2, 1]);
 
 const THE_FIRST_MOVED: &[Line] = requeued!(RequeueOne, took!(0, 1, true), &[1], &[2, 0]);
 
@@ -87,16 +81,16 @@ const NOBODY_THERE: &[Line] = &[(
 )];
 
 const PLAYS: &[Play] = &[
-    play!("filtered", 3, &[], FILTERED),
-    play!("stopped", 3, TWO_LISTS, STOPPED),
-    play!("one woken, the rest moved", 3, TWO_LISTS, ONE_WOKEN_AND_THE_REST_MOVED),
-    play!("the first moved", 3, TWO_LISTS, THE_FIRST_MOVED),
-    play!("all moved", 3, TWO_LISTS, ALL_MOVED),
-    play!("one woken", 3, TWO_LISTS, ONE_WOKEN),
-    play!("aborted", 3, TWO_LISTS, ABORTED),
-    play!("moved to itself", 3, TWO_LISTS, MOVED_TO_ITSELF),
-    play!("all woken", 3, TWO_LISTS, ALL_WOKEN),
-    play!("nobody there", 1, &[], NOBODY_THERE),
+    ("filtered", 8, 3, &[], FILTERED),
+    ("stopped", 8, 3, TWO_LISTS, STOPPED),
+    ("the rest moved", 8, 3, TWO_LISTS, REST_MOVED),
+    ("the first moved", 8, 3, TWO_LISTS, THE_FIRST_MOVED),
+    ("all moved", 8, 3, TWO_LISTS, ALL_MOVED),
+    ("one woken", 8, 3, TWO_LISTS, ONE_WOKEN),
+    ("aborted", 8, 3, TWO_LISTS, ABORTED),
+    ("moved to itself", 8, 3, TWO_LISTS, MOVED_TO_ITSELF),
+    ("all woken", 8, 3, TWO_LISTS, ALL_WOKEN),
+    ("nobody there", 8, 1, &[], NOBODY_THERE),
 ];
 
 #[test]

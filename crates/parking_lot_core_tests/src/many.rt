@@ -1,10 +1,12 @@
 //! Threads that sleep under many keys, whose lists stand in one bucket or in several, and buckets that become more.
-use crate::sleepers::{Keys, TURNS, has_come, parked_each, sleeps, unparked};
+use crate::sleepers::{TURNS, are_told, has_come, parked, sleep_each, unparked};
 use crate::threads::admitted;
 use crate::trials::{Trial, goes_well};
+use parking_lot_core::RequeueOp::{Abort, RequeueAll, RequeueOne, UnparkOne, UnparkOneRequeueRest};
 use parking_lot_core::{
-    FilterOp, LotFault, ParkResult, ParkToken, ParkingLot, RequeueOp, ThreadData, UnparkToken,
-    park, thread_yield, unpark_all, unpark_filter, unpark_one, unpark_requeue,
+    DEFAULT_PARK_TOKEN, FilterOp, LotFault, ParkResult, ParkToken, ParkingLot, RequeueOp,
+    ThreadData, UnparkToken, park, thread_yield, unpark_all, unpark_filter, unpark_one,
+    unpark_requeue,
 };
 use refusing_heap::{Case, Heap, Said, Seen, make_in_turn};
 use std::alloc::{AllocError, Allocator, Global};
@@ -27,6 +29,40 @@ const ROUNDS: usize = 25_000;
 const OTHERS: usize = 90;
 
 const BETWEEN: usize = 1_000;
+
+/// So many keys from one on, taken in turn.
+#[derive(Clone, Copy)]
+struct Keys {
+    first: usize,
+    count: usize,
+}
+
+impl Keys {
+    /// The key of a round.
+    fn at(self, round: usize) -> usize {
+        let behind = round.checked_rem(self.count).unwrap_or(0);
+        self.first.wrapping_add(behind)
+    }
+}
+
+/// Parks so often, and answers whether each park got the token of its round.
+fn parked_each<R: Wait + Clock>(
+    lot: &ParkingLot<R>,
+    keys: Keys,
+    rounds: usize,
+    over: &AtomicUsize,
+) -> bool {
+    let Ok(mut me) = lot.thread_data() else {
+        return false;
+    };
+    for round in 0..rounds {
+        let ended = parked(lot, &mut me, keys.at(round), DEFAULT_PARK_TOKEN, over);
+        if ended != Some(ParkResult::Unparked(UnparkToken(round))) {
+            return false;
+        }
+    }
+    true
+}
 
 /// The keys of a pair. Keys of different pairs have one bucket, until there are more.
 fn keys_of(pair: usize) -> Keys {
@@ -51,12 +87,12 @@ fn unparked_elsewhere<R: Wait>(lot: &ParkingLot<R>, key: usize, token: usize) ->
     false
 }
 
-/// Wakes the sleeper of a round, each second time under another key.
-fn woken<R: Wait>(lot: &ParkingLot<R>, key: usize, round: usize) -> bool {
-    if round % 2 == 0 {
-        unparked(lot, key, round)
+/// Wakes the sleeper of a round, of many keys each second time under another key.
+fn woken<R: Wait>(lot: &ParkingLot<R>, keys: Keys, round: usize) -> bool {
+    if keys.count == 1 || round % 2 == 0 {
+        unparked(lot, keys.at(round), round)
     } else {
-        unparked_elsewhere(lot, key, round)
+        unparked_elsewhere(lot, keys.at(round), round)
     }
 }
 
@@ -72,13 +108,13 @@ fn woken_of_all<R: Wait>(lot: &ParkingLot<R>) -> usize {
 /// Wakes a sleeper so often, with the number of the round. Where it doesn't come it says that it is over.
 fn unparked_each<R: Wait>(
     lot: &ParkingLot<R>,
-    pair: usize,
+    keys: Keys,
+    rounds: usize,
     over: &AtomicUsize,
     done: &AtomicUsize,
 ) -> bool {
-    let keys = keys_of(pair);
-    for round in 0..ROUNDS {
-        if !woken(lot, keys.at(round), round) {
+    for round in 0..rounds {
+        if !woken(lot, keys, round) {
             over.store(1, Ordering::SeqCst);
             woken_of_all(lot);
             return false;
@@ -122,7 +158,7 @@ fn takes_part<R: Wait + Clock>(
     if number < PAIRS {
         parked_each(lot, keys_of(number), ROUNDS, over)
     } else if number < 2 * PAIRS {
-        unparked_each(lot, number - PAIRS, over, done)
+        unparked_each(lot, keys_of(number - PAIRS), ROUNDS, over, done)
     } else {
         registered(lot, over, done)
     }
@@ -142,6 +178,19 @@ fn all_take_part<R: Wait + Threads + Clock + Sync>(
         2 * PAIRS + 1,
         &|number| takes_part(lot, number, over, done),
     )
+}
+
+/// One thread is woken a hundred thousand times under one key, as often as it parks, and at the end nobody is left.
+fn is_none_lost<R: Wait + Threads + Clock + Sync>(rt: &R, lot: &ParkingLot<R>) -> bool {
+    let keys = Keys { first: 3, count: 1 };
+    let over = AtomicUsize::new(0);
+    let done = AtomicUsize::new(0);
+    let (slept, woke) = thread::join(
+        rt,
+        || parked_each(lot, keys, 100_000, &over),
+        || unparked_each(lot, keys, 100_000, &over, &done),
+    );
+    slept & woke & (unpark_all(lot, 3, UnparkToken(0)) == 0)
 }
 
 /// None is lost while buckets grow.
@@ -223,20 +272,16 @@ const STEPS: [(Call, usize, [usize; 4]); 10] = [
     (Call::One(3), 10, [2, 34, 5, 6]),
     (Call::Register(40), 0, [2, 34, 5, 6]),
     (
-        Call::Requeue(67, 4, RequeueOp::UnparkOneRequeueRest),
+        Call::Requeue(67, 4, UnparkOneRequeueRest),
         11,
         [2, 0, 54, 6],
     ),
-    (Call::Requeue(4, 67, RequeueOp::RequeueOne), 0, [2, 5, 4, 6]),
-    (
-        Call::Requeue(3, 67, RequeueOp::RequeueAll),
-        0,
-        [0, 52, 4, 6],
-    ),
-    (Call::Requeue(5, 4, RequeueOp::Abort), 0, [0, 52, 4, 6]),
+    (Call::Requeue(4, 67, RequeueOne), 0, [2, 5, 4, 6]),
+    (Call::Requeue(3, 67, RequeueAll), 0, [0, 52, 4, 6]),
+    (Call::Requeue(5, 4, Abort), 0, [0, 52, 4, 6]),
     (Call::Filter(67, 1), 13, [0, 5, 4, 6]),
     (Call::All(4), 14, [0, 5, 0, 6]),
-    (Call::Requeue(5, 3, RequeueOp::UnparkOne), 15, [0, 5, 0, 0]),
+    (Call::Requeue(5, 3, UnparkOne), 15, [0, 5, 0, 0]),
     (Call::All(67), 16, [0, 0, 0, 0]),
 ];
 
@@ -255,42 +300,8 @@ fn wrong_step<R: Wait>(lot: &ParkingLot<R>, joined: &AtomicUsize) -> Option<usiz
     wrong
 }
 
-/// Whether the six sleepers were told these tokens.
-fn are_told(tokens: Result<Vec<Option<UnparkToken>>, AllocError>, told: [usize; 6]) -> bool {
-    let Ok(tokens) = tokens else {
-        return false;
-    };
-    let mut are_right = tokens.len() == 6;
-    for (token, wanted) in tokens.iter().zip(told.iter()) {
-        are_right = are_right & (*token == Some(UnparkToken(*wanted)));
-    }
-    are_right
-}
-
-/// The key under which a sleeper sleeps.
-fn key_of_sleeper(number: usize) -> usize {
-    match number {
-        0 | 1 => 3,
-        2 | 3 => 67,
-        4 => 4,
-        _ => 5,
-    }
-}
-
-/// Six sleep. Answers what each was told.
-fn six_sleep<R: Wait + Threads + Clock + Sync>(
-    rt: &R,
-    alloc: Global,
-    lot: &ParkingLot<R>,
-    joined: &AtomicUsize,
-) -> Result<Vec<Option<UnparkToken>>, AllocError> {
-    thread::map_indices(
-        rt,
-        alloc,
-        6,
-        &|number| sleeps(lot, joined, number, key_of_sleeper(number)),
-    )
-}
+/// The keys under which six sleep.
+const SLEEPERS: [usize; 6] = [3, 3, 67, 67, 4, 5];
 
 /// Whether neighbouring lists stay as they are to while six sleep and the calls are made, and each is told its token.
 fn lists_stay<R: Wait + Threads + Clock + Sync>(
@@ -301,10 +312,10 @@ fn lists_stay<R: Wait + Threads + Clock + Sync>(
     let joined = AtomicUsize::new(0);
     let (tokens, wrong) = thread::join(
         rt,
-        || six_sleep(rt, alloc, lot, &joined),
+        || sleep_each(rt, alloc, lot, &joined, &SLEEPERS),
         || wrong_step(lot, &joined),
     );
-    wrong.is_none() & are_told(tokens, [10, 13, 11, 14, 16, 15])
+    wrong.is_none() & are_told(tokens, &[10, 13, 11, 14, 16, 15])
 }
 
 /// Parks under key 3 until a moment that is past, and is moved to another key before. Answers how the park ended, under
@@ -312,9 +323,9 @@ fn lists_stay<R: Wait + Threads + Clock + Sync>(
 fn moved_then_late<R: Wait + Clock>(
     rt: &R,
     lot: &ParkingLot<R>,
-    past: Instant,
     other: usize,
 ) -> Option<(ParkResult, usize, bool)> {
+    let past = Instant::now(rt).ok()?;
     let mut me = lot.thread_data().ok()?;
     let mut told = (0, false);
     let ended = park(
@@ -340,17 +351,14 @@ fn moved_then_late<R: Wait + Clock>(
 
 /// A moved thread gives up at its new key.
 fn gives_up<R: Wait + Clock>(rt: &R, lot: &ParkingLot<R>, other: usize) -> bool {
-    let Ok(past) = Instant::now(rt) else {
-        return false;
-    };
-    let ended = moved_then_late(rt, lot, past, other);
-    let is_late = ended == Some((ParkResult::TimedOut, other, true));
+    let is_late = moved_then_late(rt, lot, other) == Some((ParkResult::TimedOut, other, true));
     is_late & (list(lot, 3) == 0) & (list(lot, other) == 0)
 }
 
 /// What many threads do, or one that is moved.
 #[derive(Clone, Copy)]
 enum Many {
+    Unparks,
     Grow,
     Neighbours,
     Moved,
@@ -359,11 +367,18 @@ enum Many {
 impl<R: Wait + Threads + Clock + Sync> Trial<R> for Many {
     fn goes(self, rt: &R, alloc: Global, lot: &ParkingLot<R>) -> bool {
         match self {
+            Many::Unparks => is_none_lost(rt, lot),
             Many::Grow => none_is_lost(rt, alloc, lot) == Ok(true),
             Many::Neighbours => lists_stay(rt, alloc, lot),
             Many::Moved => gives_up(rt, lot, 4) && gives_up(rt, lot, 19),
         }
     }
+}
+
+#[test]
+fn a_hundred_thousand_unparks_are_not_lost(rt: HostRuntime) -> Result<(), Fail> {
+    assert!(rt; goes_well(rt, rt.alloc(), 2, Many::Unparks)?);
+    Ok(())
 }
 
 #[test]
@@ -374,7 +389,10 @@ fn none_is_lost_while_buckets_grow(rt: HostRuntime) -> Result<(), Fail> {
 
 #[test]
 fn lists_of_a_bucket_stay(rt: HostRuntime) -> Result<(), Fail> {
-    assert!(rt; goes_well(rt, rt.alloc(), 46, Many::Neighbours)?, "neighbours");
+    assert!(rt;
+        goes_well(rt, rt.alloc(), 46, Many::Neighbours)?,
+        "neighbours"
+    );
     assert!(rt; goes_well(rt, rt.alloc(), 4, Many::Moved)?, "moved");
     Ok(())
 }
@@ -413,28 +431,6 @@ fn register_beside<R: Wait>(
     seen
 }
 
-/// Sleeps under key 3, as long as it isn't over.
-fn sleep_here<'h, R: Wait + Clock>(
-    lot: &ParkingLot<R, &'h Heap>,
-    me: &mut ThreadData<&'h Heap>,
-    over: &AtomicUsize,
-) -> Option<ParkResult> {
-    let going = 0usize;
-    if !lot.same_lot(me) {
-        return None;
-    }
-    Some(park(
-        lot,
-        me,
-        3,
-        || over.load(Ordering::SeqCst) == going,
-        || {},
-        |_, _| {},
-        ParkToken(1),
-        None::<(Instant, &R)>,
-    ))
-}
-
 /// One sleeps, and the next is registered beside it.
 fn both_go_on<'h, R: Wait + Threads + Clock + Sync>(
     rt: &R,
@@ -446,7 +442,7 @@ fn both_go_on<'h, R: Wait + Threads + Clock + Sync>(
     let over = AtomicUsize::new(0);
     thread::join(
         rt,
-        || sleep_here(lot, me, &over),
+        || parked(lot, me, 3, ParkToken(1), &over),
         || register_beside(heap, lot, threads, &over),
     )
 }

@@ -1,9 +1,9 @@
 //! Sizes, participants and sleeps of an exclusive lot.
 
 use crate::script::{
-    Answer, Call, FULL, IS, LATE, Line, Play, RUNS, WAITS, WRONG, follow_each, play, took, woken,
+    Answer, Call, FULL, IS, Line, Play, WAITS, WRONG, follow_each, stands, took, woken,
 };
-use parking_lot_core::{Lot, LotFault, ParkResult, SizeFault, ThreadStatus, UnparkToken};
+use parking_lot_core::{Lot, LotFault, ParkResult, SizeFault, UnparkToken};
 use std::process::Abort;
 use std::test::Fail;
 
@@ -60,19 +60,16 @@ const UNPARKED: &[Line] = &[
     (Call::Park(0, 3), WAITS),
     (
         Call::Status(0),
-        Answer::Stands(Some(ThreadStatus::Waiting {
+        stands!(Waiting {
             key: 3,
-            timed: false,
-        })),
+            timed: false
+        }),
     ),
     (Call::Park(0, 3), WRONG),
     (Call::UnparkOne(3, 42), took!(1, 0, false)),
-    (
-        Call::Status(0),
-        Answer::Stands(Some(ThreadStatus::Taken(UnparkToken(42)))),
-    ),
+    (Call::Status(0), stands!(Taken(UnparkToken(42)))),
     (Call::Resume(0), woken!(42)),
-    (Call::Status(0), RUNS),
+    (Call::Status(0), stands!(Running)),
 ];
 
 /// An invalid park leaves the list.
@@ -82,7 +79,7 @@ const INVALID: &[Line] = &[
         Answer::Ended(Some(ParkResult::Invalid)),
     ),
     (Call::IsQueue(3, &[]), IS),
-    (Call::Status(0), RUNS),
+    (Call::Status(0), stands!(Running)),
 ];
 
 /// A deadline ends a timed sleep.
@@ -93,11 +90,11 @@ const TIMED_OUT: &[Line] = &[
     (Call::ParkTimed(0, 3), WAITS),
     (Call::Resume(0), WRONG),
     (Call::Deadline(0), Answer::Done),
-    (Call::Status(0), LATE),
+    (Call::Status(0), stands!(PastDeadline)),
     (Call::Deadline(0), WRONG),
     (
-        Call::ResumeLate(0),
-        Answer::Late(ParkResult::TimedOut, Some((3, false))),
+        Call::Resume(0),
+        Answer::Resumed(ParkResult::TimedOut, Some((3, false))),
     ),
     (Call::IsQueue(3, &[1]), IS),
 ];
@@ -107,20 +104,17 @@ const TAKEN_LATE: &[Line] = &[
     (Call::ParkTimed(0, 3), WAITS),
     (Call::Deadline(0), Answer::Done),
     (Call::UnparkOne(3, 5), took!(1, 0, false)),
-    (Call::Status(0), LATE),
-    (
-        Call::ResumeLate(0),
-        Answer::Late(ParkResult::Unparked(UnparkToken(5)), None),
-    ),
+    (Call::Status(0), stands!(PastDeadline)),
+    (Call::Resume(0), woken!(5)),
 ];
 
 const PLAYS: &[Play] = &[
-    play!("numbers", 6, &[], NUMBERS),
-    play!("resources", 2, &[], RESOURCES),
-    play!("unparked", 1, &[], UNPARKED),
-    play!("invalid", 1, &[], INVALID),
-    play!("timed out", 2, &[], TIMED_OUT),
-    play!("taken late", 1, &[], TAKEN_LATE),
+    ("numbers", 8, 6, &[], NUMBERS),
+    ("resources", 8, 2, &[], RESOURCES),
+    ("unparked", 8, 1, &[], UNPARKED),
+    ("invalid", 8, 1, &[], INVALID),
+    ("timed out", 8, 2, &[], TIMED_OUT),
+    ("taken late", 8, 1, &[], TAKEN_LATE),
 ];
 
 #[test]

@@ -22,21 +22,18 @@ pub enum Call {
     /// Parks it with a validation that answers false.
     ParkInvalid(usize, usize),
     Deadline(usize),
-    Resume(usize),
     /// Resumes a thread, and says what its deadline tells.
-    ResumeLate(usize),
+    Resume(usize),
     /// A thread comes back into the section of its key, by itself, and takes itself off its list there.
     ComeBack(usize, usize),
     Quit(usize),
-    /// Wakes a thread out of the sleep that was marked first, or second.
+    /// Wakes a thread out of the sleep from which it was taken first, or second.
     Wake(usize, usize),
     Enter(usize, usize),
     Check(usize, bool),
     /// Appends a thread, with a deadline where this says so.
     Append(usize, bool),
     TakeNext(usize),
-    /// Takes the next waiter, and marks its sleep.
-    TakeMarked(usize),
     /// Skips the next waiter, and takes the one behind it.
     TakeBehindOne(usize),
     /// Says that a section's word is stored, with a token.
@@ -72,11 +69,10 @@ pub enum Answer {
     Is(bool),
     Ended(Option<ParkResult>),
     Taken(Option<usize>),
-    Unparked(UnparkResult),
-    /// The same, and how often a closure was called.
+    /// What an unpark answers, and how often a closure was called, where that is counted.
     Counted(UnparkResult, usize),
     /// How a park has ended, and what its deadline told.
-    Late(ParkResult, Option<(usize, bool)>),
+    Resumed(ParkResult, Option<(usize, bool)>),
     Left(Option<UnparkToken>),
     Stands(Option<ThreadStatus>),
 }
@@ -90,13 +86,6 @@ pub const WAITS: Answer = Answer::Ended(None);
 pub const IS: Answer = Answer::Is(true);
 
 pub const IS_NOT: Answer = Answer::Is(false);
-
-/// Where the thread stands.
-pub const RUNS: Answer = Answer::Stands(Some(ThreadStatus::Running));
-
-pub const INSIDE: Answer = Answer::Stands(Some(ThreadStatus::InSection));
-
-pub const LATE: Answer = Answer::Stands(Some(ThreadStatus::PastDeadline));
 
 /// All numbers are given out.
 pub const FULL: Answer = Answer::Refused(LotFault::TooManyThreads);
@@ -122,34 +111,29 @@ macro_rules! outcome {
 /// The same as an answer.
 macro_rules! took {
     ($unparked:expr, $requeued:expr, $more:expr) => {
-        crate::script::Answer::Unparked(crate::script::outcome!($unparked, $requeued, $more))
+        crate::script::Answer::Counted(crate::script::outcome!($unparked, $requeued, $more), 0)
     };
 }
 
-/// The thread was unparked with that token.
+/// The thread was unparked with that token, and its deadline told nothing.
 macro_rules! woken {
     ($token:expr) => {
-        crate::script::Answer::Ended(Some(parking_lot_core::ParkResult::Unparked(
-            parking_lot_core::UnparkToken($token),
-        )))
+        crate::script::Answer::Resumed(
+            parking_lot_core::ParkResult::Unparked(parking_lot_core::UnparkToken($token)),
+            None,
+        )
     };
 }
 
-/// The first `threads` numbers of a lot are given out, those of `before` are called, and then the others.
-macro_rules! play {
-    ($name:expr, $threads:expr, $before:expr, $script:expr) => {
-        crate::script::Play {
-            name: $name,
-            most: 8,
-            threads: $threads,
-            before: $before,
-            script: $script,
-        }
+/// The thread stands there.
+macro_rules! stands {
+    ($($status:tt)+) => {
+        crate::script::Answer::Stands(Some(parking_lot_core::ThreadStatus::$($status)+))
     };
 }
 
 pub(crate) use outcome;
-pub(crate) use play;
+pub(crate) use stands;
 pub(crate) use took;
 pub(crate) use woken;
 
@@ -170,13 +154,6 @@ fn number(answered: Result<usize, LotFault>) -> Answer {
 fn ended(answered: Result<Option<ParkResult>, LotFault>) -> Answer {
     match answered {
         Ok(end) => Answer::Ended(end),
-        Err(fault) => Answer::Refused(fault),
-    }
-}
-
-fn unparked(answered: Result<UnparkResult, LotFault>) -> Answer {
-    match answered {
-        Ok(outcome) => Answer::Unparked(outcome),
         Err(fault) => Answer::Refused(fault),
     }
 }
@@ -212,13 +189,13 @@ fn park(lot: &mut Lot, thread: usize, key: usize, valid: bool, timed: bool) -> A
 fn resumed(lot: &mut Lot, thread: usize) -> Answer {
     let mut told = None;
     match lot.resume(thread, |key, last| told = Some((key, last))) {
-        Ok(end) => Answer::Late(end, told),
+        Ok(end) => Answer::Resumed(end, told),
         Err(fault) => Answer::Refused(fault),
     }
 }
 
-/// The first waiter that a section hasn't passed, or the one behind it.
-fn next_taken(lot: &mut Lot, thread: usize, skips: bool) -> Answer {
+/// The first waiter that a section hasn't passed, or the one behind it, whose sleep is marked.
+fn next_taken(lot: &mut Lot, marks: &mut Marks, thread: usize, skips: bool) -> Answer {
     let mut skips = skips;
     let taken = lot.take_next(thread, |_| {
         let op = if skips {
@@ -230,14 +207,6 @@ fn next_taken(lot: &mut Lot, thread: usize, skips: bool) -> Answer {
         op
     });
     match taken {
-        Ok(taking) => Answer::Taken(taking.map(|taking| taking.thread)),
-        Err(fault) => Answer::Refused(fault),
-    }
-}
-
-/// The first waiter that a section hasn't passed, whose sleep is marked.
-fn marked(lot: &mut Lot, marks: &mut Marks, thread: usize) -> Answer {
-    match lot.take_next(thread, |_| FilterOp::Unpark) {
         Ok(Some(taking)) => {
             *marks = Marks(marks.1, taking.mark);
             Answer::Taken(Some(taking.thread))
@@ -281,15 +250,18 @@ fn requeued_counting(lot: &mut Lot, from: usize, to: usize, op: RequeueOp) -> An
 /// Makes a call that unparks.
 fn unpark_call(lot: &mut Lot, call: Call) -> Answer {
     match call {
-        Call::UnparkOne(key, token) => unparked(lot.unpark_one(key, |_| UnparkToken(token))),
+        Call::UnparkOne(key, token) => counted(lot.unpark_one(key, |_| UnparkToken(token)), 0),
         Call::UnparkAll(key, token) => number(lot.unpark_all(key, UnparkToken(token))),
         Call::UnparkFilter(key, token) => {
-            unparked(lot.unpark_filter(key, by_thread, |_| UnparkToken(token)))
+            counted(lot.unpark_filter(key, by_thread, |_| UnparkToken(token)), 0)
         }
         Call::UnparkStopping(key) => stopped(lot, key),
         Call::UnparkCounting(key) => unparked_counting(lot, key),
         Call::Requeue(from, to, op) => {
-            unparked(lot.unpark_requeue(from, to, || op, |_, _| DEFAULT_UNPARK_TOKEN))
+            counted(
+                lot.unpark_requeue(from, to, || op, |_, _| DEFAULT_UNPARK_TOKEN),
+                0,
+            )
         }
         Call::RequeueCounting(from, to, op) => requeued_counting(lot, from, to, op),
         _ => Answer::Done,
@@ -305,9 +277,8 @@ fn section_call(lot: &mut Lot, marks: &mut Marks, call: Call) -> Answer {
             Err(fault) => Answer::Refused(fault),
         },
         Call::Append(thread, timed) => done(lot.append(thread, ParkToken(thread), timed)),
-        Call::TakeNext(thread) => next_taken(lot, thread, false),
-        Call::TakeBehindOne(thread) => next_taken(lot, thread, true),
-        Call::TakeMarked(thread) => marked(lot, marks, thread),
+        Call::TakeNext(thread) => next_taken(lot, marks, thread, false),
+        Call::TakeBehindOne(thread) => next_taken(lot, marks, thread, true),
         Call::Wake(thread, nth) => Answer::Is(lot.wake(thread, marks.of(nth))),
         Call::Store(thread, token) => done(lot.store_done(thread, UnparkToken(token))),
         Call::Leave(thread) => done(lot.leave(thread)),
@@ -315,21 +286,20 @@ fn section_call(lot: &mut Lot, marks: &mut Marks, call: Call) -> Answer {
     }
 }
 
-/// Makes a call of a thread, or looks at one.
-fn thread_call(lot: &mut Lot, call: Call) -> Answer {
+/// Makes a call of a thread.
+fn thread_call(lot: &mut Lot, marks: &mut Marks, call: Call) -> Answer {
     match call {
         Call::Park(thread, key) => park(lot, thread, key, true, false),
         Call::ParkTimed(thread, key) => park(lot, thread, key, true, true),
         Call::ParkInvalid(thread, key) => park(lot, thread, key, false, false),
         Call::Deadline(thread) => done(lot.deadline(thread)),
-        Call::Resume(thread) => ended(lot.resume(thread, |_, _| {}).map(Some)),
-        Call::ResumeLate(thread) => resumed(lot, thread),
+        Call::Resume(thread) => resumed(lot, thread),
         Call::ComeBack(thread, key) => done(lot.come_back(thread, key)),
         Call::Quit(thread) => match lot.quit(thread) {
             Ok(token) => Answer::Left(token),
             Err(fault) => Answer::Refused(fault),
         },
-        _ => Answer::Done,
+        call => section_call(lot, marks, call),
     }
 }
 
@@ -344,14 +314,11 @@ fn make_call(lot: &mut Lot, marks: &mut Marks, call: Call) -> Answer {
         Call::Status(thread) => Answer::Stands(lot.status(thread)),
         Call::Buckets => Answer::Number(lot.buckets()),
         Call::IsQueue(key, threads) => are(lot.queue(key), threads),
-        Call::Park(..) | Call::ParkTimed(..) | Call::ParkInvalid(..) => thread_call(lot, call),
-        Call::Deadline(_) | Call::Resume(_) | Call::ResumeLate(_) => thread_call(lot, call),
-        Call::ComeBack(..) | Call::Quit(_) => thread_call(lot, call),
-        call => section_call(lot, marks, call),
+        call => thread_call(lot, marks, call),
     }
 }
 
-/// The marks of the last two sleeps that were marked.
+/// The marks of the last two sleeps from which a waiter was taken.
 #[derive(Clone, Copy)]
 struct Marks(u64, u64);
 
@@ -373,31 +340,25 @@ fn wrong_line(lot: &mut Lot, before: &[Line], script: &[Line]) -> Option<usize> 
     None
 }
 
-/// Calls on a lot of at most so many threads, of which so many, numbered from 0, are registered: those of `before`, and
-/// then the others.
-#[derive(Clone, Copy)]
-pub struct Play {
-    pub name: &'static str,
-    pub most: usize,
-    pub threads: usize,
-    pub before: &'static [Line],
-    pub script: &'static [Line],
-}
+/// A lot's greatest number of threads, how many of them are registered, numbered from 0, the calls that are made before,
+/// and then those that are made.
+pub type Play = (&'static str, usize, usize, &'static [Line], &'static [Line]);
 
 /// Makes a play's calls on a new lot, and answers the first line that is answered otherwise.
 fn follow(alloc: Global, play: &Play) -> Result<Option<usize>, Fail> {
-    let mut lot = Lot::new(alloc, play.most, 7)?;
-    for _thread in 0..play.threads {
+    let (_name, most, threads, before, script) = *play;
+    let mut lot = Lot::new(alloc, most, 7)?;
+    for _thread in 0..threads {
         lot.register()?;
     }
-    Ok(wrong_line(&mut lot, play.before, play.script))
+    Ok(wrong_line(&mut lot, before, script))
 }
 
 /// Looks whether each call of the plays answers as it must.
 pub fn follow_each(rt: &(impl AllocGlobal + Abort), plays: &[Play]) -> Result<(), Fail> {
     for play in plays {
         if let Some(line) = follow(rt.alloc(), play)? {
-            let name = play.name;
+            let name = play.0;
             assert!(rt; false, "{name}: line {line}");
         }
     }

@@ -1,10 +1,9 @@
 //! Sections of an exclusive lot, step by step.
 
 use crate::script::{
-    Answer, BUSY, Call, INSIDE, IS, IS_NOT, LATE, Line, Play, RUNS, WAITS, WRONG, follow_each, play,
-    woken,
+    Answer, BUSY, Call, IS, IS_NOT, Line, Play, WAITS, WRONG, follow_each, stands, woken,
 };
-use parking_lot_core::{ThreadStatus, UnparkToken};
+use parking_lot_core::UnparkToken;
 use std::test::Fail;
 
 /// Thread 1 waits under key 5, and thread 0 is in that key's section.
@@ -15,7 +14,7 @@ const ENTERED: &[Line] = &[
 
 /// A section is entered once.
 const ENTERED_ONCE: &[Line] = &[
-    (Call::Status(0), INSIDE),
+    (Call::Status(0), stands!(InSection)),
     (Call::Enter(2, 5), BUSY),
     (Call::Enter(2, 21), BUSY),
     (Call::Enter(0, 9), WRONG),
@@ -42,40 +41,37 @@ const CHECKED_IN_VAIN: &[Line] = &[
     (Call::Append(0, false), WRONG),
     (Call::TakeNext(0), WRONG),
     (Call::Leave(0), Answer::Done),
-    (Call::Status(0), RUNS),
+    (Call::Status(0), stands!(Running)),
 ];
 
 /// A thread appends itself.
 const APPENDED: &[Line] = &[
     (Call::Check(0, true), IS),
     (Call::Append(0, true), Answer::Done),
-    (Call::Status(0), INSIDE),
+    (Call::Status(0), stands!(InSection)),
     (Call::Append(0, true), WRONG),
     (Call::Deadline(0), WRONG),
     (Call::Leave(0), Answer::Done),
     (
         Call::Status(0),
-        Answer::Stands(Some(ThreadStatus::Waiting {
+        stands!(Waiting {
             key: 5,
-            timed: true,
-        })),
+            timed: true
+        }),
     ),
     (Call::IsQueue(5, &[1, 0]), IS),
 ];
 
 /// A waiter is taken and woken.
 const TAKEN: &[Line] = &[
-    (Call::TakeMarked(0), Answer::Taken(Some(1))),
+    (Call::TakeNext(0), Answer::Taken(Some(1))),
     (Call::TakeNext(0), Answer::Taken(None)),
     (Call::TakeNext(0), WRONG),
     (Call::Resume(1), BUSY),
     (Call::Store(0, 4), Answer::Done),
     (Call::Store(0, 4), WRONG),
     (Call::Leave(0), Answer::Done),
-    (
-        Call::Status(1),
-        Answer::Stands(Some(ThreadStatus::Taken(UnparkToken(4)))),
-    ),
+    (Call::Status(1), stands!(Taken(UnparkToken(4)))),
     (Call::Wake(1, 1), IS),
     (Call::Wake(1, 1), IS_NOT),
     (Call::Resume(1), woken!(4)),
@@ -83,14 +79,14 @@ const TAKEN: &[Line] = &[
 
 /// A late wake ends no later sleep.
 const WOKEN_LATE: &[Line] = &[
-    (Call::TakeMarked(0), Answer::Taken(Some(1))),
+    (Call::TakeNext(0), Answer::Taken(Some(1))),
     (Call::Leave(0), Answer::Done),
     (Call::Deadline(1), Answer::Done),
-    (Call::Status(1), LATE),
+    (Call::Status(1), stands!(PastDeadline)),
     (Call::Resume(1), woken!(0)),
     (Call::Park(1, 5), WAITS),
     (Call::Enter(0, 5), Answer::Done),
-    (Call::TakeMarked(0), Answer::Taken(Some(1))),
+    (Call::TakeNext(0), Answer::Taken(Some(1))),
     (Call::Leave(0), Answer::Done),
     (Call::Wake(1, 0), IS_NOT),
     (Call::Wake(1, 1), IS),
@@ -122,13 +118,13 @@ const COMES_BACK: &[Line] = &[
     (Call::Quit(1), Answer::Left(None)),
     (Call::Quit(1), WRONG),
     (Call::Leave(1), Answer::Done),
-    (Call::Status(1), RUNS),
+    (Call::Status(1), stands!(Running)),
     (Call::IsQueue(5, &[2]), IS),
 ];
 
 /// A sleeper comes back to find itself taken.
 const COMES_BACK_TAKEN: &[Line] = &[
-    (Call::TakeMarked(0), Answer::Taken(Some(1))),
+    (Call::TakeNext(0), Answer::Taken(Some(1))),
     (Call::Store(0, 4), Answer::Done),
     (Call::Leave(0), Answer::Done),
     (Call::ComeBack(1, 5), Answer::Done),
@@ -138,15 +134,15 @@ const COMES_BACK_TAKEN: &[Line] = &[
 ];
 
 const PLAYS: &[Play] = &[
-    play!("entered once", 3, ENTERED, ENTERED_ONCE),
-    play!("steps outside", 3, ENTERED, STEPS_OUTSIDE),
-    play!("checked in vain", 3, ENTERED, CHECKED_IN_VAIN),
-    play!("appended", 3, ENTERED, APPENDED),
-    play!("taken", 3, ENTERED, TAKEN),
-    play!("woken late", 3, ENTERED, WOKEN_LATE),
-    play!("shown on", 4, &[], SHOWN_ON),
-    play!("comes back", 3, &[], COMES_BACK),
-    play!("comes back taken", 3, ENTERED, COMES_BACK_TAKEN),
+    ("entered once", 8, 3, ENTERED, ENTERED_ONCE),
+    ("steps outside", 8, 3, ENTERED, STEPS_OUTSIDE),
+    ("checked in vain", 8, 3, ENTERED, CHECKED_IN_VAIN),
+    ("appended", 8, 3, ENTERED, APPENDED),
+    ("taken", 8, 3, ENTERED, TAKEN),
+    ("woken late", 8, 3, ENTERED, WOKEN_LATE),
+    ("shown on", 8, 4, &[], SHOWN_ON),
+    ("comes back", 8, 3, &[], COMES_BACK),
+    ("comes back taken", 8, 3, ENTERED, COMES_BACK_TAKEN),
 ];
 
 #[test]

@@ -5,7 +5,7 @@ use parking_lot_core::{
     ThreadParker, ThreadParkerT, UnparkHandleT, UnparkResult, UnparkToken, WordLock, park,
     thread_yield, unpark_all, unpark_filter, unpark_one, unpark_requeue,
 };
-use std::alloc::{AllocError, Global};
+use std::alloc::{AllocError, Allocator, Global};
 use std::sync::Wait;
 use std::sync::atomic::{AtomicUsize, Ordering};
 use std::test::Fail;
@@ -14,8 +14,6 @@ use std::thread::Threads;
 use std::time::{Clock, Instant};
 
 pub const TURNS: u32 = 10_000_000;
-
-const ROUNDS: usize = 100_000;
 
 /// Waits until the flag has come so far, and answers whether it has.
 pub fn has_come(flag: &AtomicUsize, value: usize) -> bool {
@@ -39,11 +37,12 @@ pub fn unparked<R: Wait>(lot: &ParkingLot<R>, key: usize, token: usize) -> bool 
     false
 }
 
-/// Parks under the key, as long as it isn't over.
-pub fn parked<R: Wait + Clock>(
-    lot: &ParkingLot<R>,
-    me: &mut ThreadData,
+/// Parks under the key with a token, as long as it isn't over.
+pub fn parked<R: Wait + Clock, A: Allocator>(
+    lot: &ParkingLot<R, A>,
+    me: &mut ThreadData<A>,
     key: usize,
+    token: ParkToken,
     over: &AtomicUsize,
 ) -> Option<ParkResult> {
     let going = 0usize;
@@ -57,67 +56,9 @@ pub fn parked<R: Wait + Clock>(
         || over.load(Ordering::SeqCst) == going,
         || {},
         |_, _| {},
-        DEFAULT_PARK_TOKEN,
+        token,
         None::<(Instant, &R)>,
     ))
-}
-
-/// So many keys from one on, taken in turn.
-#[derive(Clone, Copy)]
-pub struct Keys {
-    pub first: usize,
-    pub count: usize,
-}
-
-impl Keys {
-    /// The key of a round.
-    pub fn at(self, round: usize) -> usize {
-        let behind = round.checked_rem(self.count).unwrap_or(0);
-        self.first.wrapping_add(behind)
-    }
-}
-
-/// Parks so often, and answers whether each park got the token of its round.
-pub fn parked_each<R: Wait + Clock>(
-    lot: &ParkingLot<R>,
-    keys: Keys,
-    rounds: usize,
-    over: &AtomicUsize,
-) -> bool {
-    let Ok(mut me) = lot.thread_data() else {
-        return false;
-    };
-    for round in 0..rounds {
-        let ended = parked(lot, &mut me, keys.at(round), over);
-        if ended != Some(ParkResult::Unparked(UnparkToken(round))) {
-            return false;
-        }
-    }
-    true
-}
-
-/// Unparks so often, with the number of the round. Where nobody comes it says that it is over.
-fn unparked_each<R: Wait>(lot: &ParkingLot<R>, over: &AtomicUsize) -> bool {
-    for round in 0..ROUNDS {
-        if !unparked(lot, 3, round) {
-            over.store(1, Ordering::SeqCst);
-            unpark_all(lot, 3, UnparkToken(ROUNDS));
-            return false;
-        }
-    }
-    true
-}
-
-/// One thread is woken as often as it parks, and at the end nobody is left.
-fn none_is_lost<R: Wait + Threads + Clock + Sync>(rt: &R, lot: &ParkingLot<R>) -> bool {
-    let over = AtomicUsize::new(0);
-    let keys = Keys { first: 3, count: 1 };
-    let (slept, woke) = thread::join(
-        rt,
-        || parked_each(lot, keys, ROUNDS, &over),
-        || unparked_each(lot, &over),
-    );
-    slept & woke & (unpark_all(lot, 3, UnparkToken(0)) == 0)
 }
 
 /// Parks under key 3 until a moment that is past, once another has been told of it and has had its turn.
@@ -151,11 +92,8 @@ fn unparked_then<R: Wait>(lot: &ParkingLot<R>, step: &AtomicUsize) -> bool {
     woke
 }
 
-/// How the park ended, whether another took it, and whether it was told to be late.
-fn ended_late<R: Wait + Threads + Clock + Sync>(
-    rt: &R,
-    lot: &ParkingLot<R>,
-) -> (Option<ParkResult>, bool, bool) {
+/// Whether a deadline behind a taking is no time out: another takes the thread, which isn't told to be late.
+fn is_in_time<R: Wait + Threads + Clock + Sync>(rt: &R, lot: &ParkingLot<R>) -> bool {
     let step = AtomicUsize::new(0);
     let late = AtomicUsize::new(0);
     let (ended, woke) = thread::join(
@@ -163,17 +101,12 @@ fn ended_late<R: Wait + Threads + Clock + Sync>(
         || parked_late(lot, rt, &step, &late),
         || unparked_then(lot, &step),
     );
-    (ended, woke, late.load(Ordering::SeqCst) != 0)
-}
-
-/// A deadline behind a taking is no time out.
-fn is_in_time<R: Wait + Threads + Clock + Sync>(rt: &R, lot: &ParkingLot<R>) -> bool {
-    let unparked = Some(ParkResult::Unparked(UnparkToken(9)));
-    ended_late(rt, lot) == (unparked, true, false)
+    let is_unparked = ended == Some(ParkResult::Unparked(UnparkToken(9)));
+    is_unparked & woke & (late.load(Ordering::SeqCst) == 0)
 }
 
 /// Parks under the key as the sleeper of that number, behind those with lesser numbers, and answers its token.
-pub fn sleeps<R: Wait + Clock>(
+fn sleeps<R: Wait + Clock>(
     lot: &ParkingLot<R>,
     joined: &AtomicUsize,
     number: usize,
@@ -199,24 +132,31 @@ pub fn sleeps<R: Wait + Clock>(
     }
 }
 
-/// Whether the three sleepers were told these tokens.
-fn are_told(tokens: Result<Vec<Option<UnparkToken>>, AllocError>, told: [usize; 3]) -> bool {
-    let [first, second, third] = told;
-    let told = |token| Some(UnparkToken(token));
-    match tokens {
-        Ok(tokens) => tokens.as_slice() == [told(first), told(second), told(third)].as_slice(),
-        Err(_) => false,
+/// Whether the sleepers were told these tokens.
+pub fn are_told(tokens: Result<Vec<Option<UnparkToken>>, AllocError>, told: &[usize]) -> bool {
+    let Ok(tokens) = tokens else {
+        return false;
+    };
+    let mut are_right = tokens.len() == told.len();
+    for (token, wanted) in tokens.iter().zip(told.iter()) {
+        are_right = are_right & (*token == Some(UnparkToken(*wanted)));
     }
+    are_right
 }
 
-/// Three sleep under key 3. Answers what each was told.
-fn three_sleep<R: Wait + Threads + Clock + Sync>(
+/// One sleeps under each of the keys. Answers what each was told.
+pub fn sleep_each<R: Wait + Threads + Clock + Sync>(
     rt: &R,
     alloc: Global,
     lot: &ParkingLot<R>,
     joined: &AtomicUsize,
+    keys: &[usize],
 ) -> Result<Vec<Option<UnparkToken>>, AllocError> {
-    thread::map_indices(rt, alloc, 3, &|number| sleeps(lot, joined, number, 3))
+    let sleeper = |number| match keys.get(number) {
+        Some(key) => sleeps(lot, joined, number, *key),
+        None => None,
+    };
+    thread::map_indices(rt, alloc, keys.len(), &sleeper)
 }
 
 /// As soon as all sleep, wakes the second by a filter, and then all others by another.
@@ -246,7 +186,7 @@ fn are_filtered<R: Wait + Threads + Clock + Sync>(
     let joined = AtomicUsize::new(0);
     let (tokens, woke) = thread::join(
         rt,
-        || three_sleep(rt, alloc, lot, &joined),
+        || sleep_each(rt, alloc, lot, &joined, &[3, 3, 3]),
         || filters(lot, &joined),
     );
     let Some((one, rest)) = woke else {
@@ -254,7 +194,7 @@ fn are_filtered<R: Wait + Threads + Clock + Sync>(
     };
     let is_one = (one.unparked_threads == 1) & one.have_more_threads;
     let are_two = (rest.unparked_threads == 2) & !rest.have_more_threads;
-    is_one & are_two & are_told(tokens, [8, 7, 8])
+    is_one & are_two & are_told(tokens, &[8, 7, 8])
 }
 
 /// As soon as all sleep, wakes the first and has the others sleep under key 4, where they are woken. Answers the first
@@ -281,14 +221,14 @@ fn are_requeued<R: Wait + Threads + Clock + Sync>(
     let joined = AtomicUsize::new(0);
     let (tokens, woke) = thread::join(
         rt,
-        || three_sleep(rt, alloc, lot, &joined),
+        || sleep_each(rt, alloc, lot, &joined, &[3, 3, 3]),
         || requeues(lot, &joined),
     );
     let Some((moved, left, rest)) = woke else {
         return false;
     };
     let are_moved = (moved.unparked_threads == 1) & (moved.requeued_threads == 2);
-    are_moved & (left == 0) & (rest == 2) & are_told(tokens, [7, 8, 8])
+    are_moved & (left == 0) & (rest == 2) & are_told(tokens, &[7, 8, 8])
 }
 
 /// Unparks nobody or filters nobody, and answers whether that is to be fair.
@@ -306,10 +246,11 @@ fn is_other<R: Wait>(lot: &ParkingLot<R>) -> bool {
     other.be_fair | (unpark_all(lot, 3, UnparkToken(0)) != 0)
 }
 
-/// Whether each 64th unpark or filter is fair, and no other call is.
-fn are_fair<R: Wait>(lot: &ParkingLot<R>) -> bool {
-    for turn in 1..257u32 {
-        if is_fair(lot, turn % 3 == 0) != (turn % 64 == 0) || is_other(lot) {
+/// Whether each 64th unpark or filter is fair up to that turn, where each third is a filter or none; and no other call.
+pub fn are_fair<R: Wait>(lot: &ParkingLot<R>, turns: u32, filters: bool) -> bool {
+    for turn in 1..turns {
+        let is_fair = is_fair(lot, filters & (turn % 3 == 0));
+        if is_fair != (turn % 64 == 0) || (filters && is_other(lot)) {
             return false;
         }
     }
@@ -432,7 +373,6 @@ fn hand_turns<R: Wait + Threads + Clock + Sync>(rt: &R, lot: &ParkingLot<R>, rou
 /// What sleepers are woken by.
 #[derive(Clone, Copy)]
 enum Waking {
-    HundredThousand,
     InTime,
     Filters,
     Requeues,
@@ -443,20 +383,13 @@ enum Waking {
 impl<R: Wait + Threads + Clock + Sync> Trial<R> for Waking {
     fn goes(self, rt: &R, alloc: Global, lot: &ParkingLot<R>) -> bool {
         match self {
-            Waking::HundredThousand => none_is_lost(rt, lot),
             Waking::InTime => is_in_time(rt, lot),
             Waking::Filters => are_filtered(rt, alloc, lot),
             Waking::Requeues => are_requeued(rt, alloc, lot),
-            Waking::Fair => are_fair(lot),
+            Waking::Fair => are_fair(lot, 257, true),
             Waking::Turns => hand_turns(rt, lot, 100),
         }
     }
-}
-
-#[test]
-fn a_hundred_thousand_unparks_are_not_lost(rt: HostRuntime) -> Result<(), Fail> {
-    assert!(rt; goes_well(rt, rt.alloc(), 2, Waking::HundredThousand)?);
-    Ok(())
 }
 
 #[test]

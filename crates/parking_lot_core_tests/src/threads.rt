@@ -47,11 +47,7 @@ fn are_counted<R: Wait>(lot: &ParkingLot<R>) -> Option<bool> {
 /// A park of a thread that is alone: whether its validation says yes, whether it unparks itself right before it sleeps,
 /// and whether its moment is past.
 #[derive(Clone, Copy)]
-struct Alone {
-    valid: bool,
-    unparks: bool,
-    late: bool,
-}
+struct Alone(bool, bool, bool);
 
 /// How such a park ended, whether it was about to sleep, and what it was told of its moment.
 #[derive(Clone, Copy, PartialEq)]
@@ -67,16 +63,17 @@ fn parked<R: Wait + Clock>(
     if !lot.same_lot(me) {
         return ParkEnd(None, false, None);
     }
+    let Alone(valid, unparks, _) = how;
     let mut slept = false;
     let mut told = None;
     let ended = park(
         lot,
         me,
         3,
-        || how.valid,
+        || valid,
         || {
             slept = true;
-            if how.unparks {
+            if unparks {
                 unpark_one(lot, 3, |_| UnparkToken(42));
             }
         },
@@ -90,7 +87,7 @@ fn parked<R: Wait + Clock>(
 /// Whether a thread that parks so ends so.
 fn parks<R: Wait + Clock>(rt: &R, lot: &ParkingLot<R>, how: Alone, must: ParkEnd) -> Option<bool> {
     let mut me = lot.thread_data().ok()?;
-    let timeout = if how.late {
+    let timeout = if how.2 {
         Some((Instant::now(rt).ok()?, rt))
     } else {
         None
@@ -101,41 +98,18 @@ fn parks<R: Wait + Clock>(rt: &R, lot: &ParkingLot<R>, how: Alone, must: ParkEnd
 /// One unparks itself before it sleeps; an invalid park runs nothing else; and a moment that is past ends a park.
 const ALONE: [(Alone, ParkEnd); 3] = [
     (
-        Alone {
-            valid: true,
-            unparks: true,
-            late: false,
-        },
+        Alone(true, true, false),
         ParkEnd(Some(ParkResult::Unparked(UnparkToken(42))), true, None),
     ),
     (
-        Alone {
-            valid: false,
-            unparks: false,
-            late: false,
-        },
+        Alone(false, false, false),
         ParkEnd(Some(ParkResult::Invalid), false, None),
     ),
     (
-        Alone {
-            valid: true,
-            unparks: false,
-            late: true,
-        },
+        Alone(true, false, true),
         ParkEnd(Some(ParkResult::TimedOut), true, Some((3, true))),
     ),
 ];
-
-/// Whether each 64th unpark asks for a fair release.
-fn are_fair<R: Wait>(lot: &ParkingLot<R>) -> bool {
-    for turn in 1..129u32 {
-        let fair = unpark_one(lot, 3, |_| DEFAULT_UNPARK_TOKEN).be_fair;
-        if fair != (turn % 64 == 0) {
-            return false;
-        }
-    }
-    true
-}
 
 /// Whether an aborted requeue does nothing, and keys are claimed behind one another.
 fn is_aborted<R: Wait>(lot: &ParkingLot<R>) -> bool {
@@ -192,7 +166,7 @@ fn both<R: Wait + Threads + Clock + Sync>(
     let over = AtomicUsize::new(0);
     thread::join(
         rt,
-        || sleepers::parked(lot, me, 3, &over),
+        || sleepers::parked(lot, me, 3, DEFAULT_PARK_TOKEN, &over),
         || sleepers::unparked(lot, 3, 42),
     )
 }
@@ -221,7 +195,7 @@ impl<R: Wait + Threads + Clock + Sync> Trial<R> for Use {
         match self {
             Use::Counts => are_counted(lot) == Some(true),
             Use::Parks(how, must) => parks(rt, lot, how, must) == Some(true),
-            Use::Fair => are_fair(lot),
+            Use::Fair => sleepers::are_fair(lot, 129, false),
             Use::Aborts => is_aborted(lot),
             Use::Records => records(lot) == Ok(true),
             Use::Unparks => is_unparked(rt, lot) == Some(true),

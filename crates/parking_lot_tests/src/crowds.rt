@@ -54,7 +54,14 @@ macro_rules! writers {
 const WAIT: &[Crowd] = &[
     crowd!("a mutex", Kind::Plain, ADDS, 25_000, 100_000, 100_000),
     crowd!("nested", Kind::Reentrant, NESTS, 5_000, 20_000, 20_000),
-    crowd!("upgrades", Kind::ReadWrite(9), UPGRADES, 2_500, 10_000, 10_000),
+    crowd!(
+        "upgrades",
+        Kind::ReadWrite(9),
+        UPGRADES,
+        2_500,
+        10_000,
+        10_000
+    ),
     writers!("writers beside a reader", 1),
     writers!("writers beside two readers", 2),
     writers!("writers beside a hundred readers", 100),
@@ -67,7 +74,14 @@ fn four_threads_exclude_each_other(rt: HostRuntime) -> Result<(), Fail> {
 
 /// Tries keep nothing where they are refused, and a word is a writer's while it adds.
 const TRY: &[Crowd] = &[
-    crowd!("tries a mutex", Kind::Plain, &[Round::AddsAt(How::Tries, 1)], 25_000, 0, u64::MAX),
+    crowd!(
+        "tries a mutex",
+        Kind::Plain,
+        &[Round::AddsAt(How::Tries, 1)],
+        25_000,
+        0,
+        u64::MAX
+    ),
     crowd!(
         "tries a lock",
         Kind::ReadWrite(100),
@@ -85,11 +99,22 @@ fn a_try_that_is_refused_keeps_nothing(rt: HostRuntime) -> Result<(), Fail> {
 
 /// Waits that give up.
 const GIVE_UP: &[Crowd] = &[
-    crowd!("a mutex in time", Kind::Plain, &[Round::Adds(SHORT)], 2_000, 1, u64::MAX),
+    crowd!(
+        "a mutex in time",
+        Kind::Plain,
+        &[Round::Adds(SHORT)],
+        2_000,
+        1,
+        u64::MAX
+    ),
     crowd!(
         "a lock in time",
         Kind::ReadWrite(9),
-        &[Round::Adds(SHORT), Round::Upgrades(SHORT, SHORT), Round::Reads(SHORT)],
+        &[
+            Round::Adds(SHORT),
+            Round::Upgrades(SHORT, SHORT),
+            Round::Reads(SHORT)
+        ],
         667,
         1,
         u64::MAX
@@ -103,7 +128,14 @@ fn four_threads_that_give_up_exclude_each_other(rt: HostRuntime) -> Result<(), F
 
 /// Each guard finds what the one before left.
 const WRITE: &[Crowd] = &[
-    crowd!("a mutex's number", Kind::Plain, &[Round::Writes(How::Waits)], 50, 200, 200),
+    crowd!(
+        "a mutex's number",
+        Kind::Plain,
+        &[Round::Writes(How::Waits)],
+        50,
+        200,
+        200
+    ),
     crowd!(
         "a lock's number",
         Kind::ReadWrite(5),

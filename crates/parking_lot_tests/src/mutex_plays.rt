@@ -135,7 +135,12 @@ const OF_ANOTHER_LOT: Setting = Setting {
 
 const OF_A_SLEEPER: &[Play] = &[
     play!("a sleeper", PLAIN, UNLOCKS_FOR_ANYBODY, SECOND),
-    play!("of another lot", OF_ANOTHER_LOT, UNLOCKS_FOR_ANYBODY, SECOND),
+    play!(
+        "of another lot",
+        OF_ANOTHER_LOT,
+        UNLOCKS_FOR_ANYBODY,
+        SECOND
+    ),
     play!("fair by the lot", FAIR_BY_THE_LOT, UNLOCKS, SECOND),
 ];
 
@@ -164,7 +169,14 @@ const HANDS_OVER_TO_ONE: &[Line] = &[LOCK, PUT_1, PARKED, END_FAIRLY, REFUSED, S
 const GOES_SECOND: &[Line] = &[LOCK, PUT_1, PARKED, SAY_1, BUMP, GET_11, END];
 
 const OF_GUARDS: &[Play] = &[
-    play!("a fair end", PLAIN, HANDS_OVER_TO_ONE, ADDS_BEHIND, &[], LEFT_11),
+    play!(
+        "a fair end",
+        PLAIN,
+        HANDS_OVER_TO_ONE,
+        ADDS_BEHIND,
+        &[],
+        LEFT_11
+    ),
     play!("a bump", PLAIN, GOES_SECOND, ADDS_BEHIND, &[], LEFT_11),
 ];
 
@@ -182,9 +194,7 @@ const WRITES: &[Line] = &[
     (Step::Aside(Aside::Locked), Answer::No),
 ];
 
-const OF_A_FAIR_GUARD: &[Play] = &[
-    play!("writes", FAIR, WRITES),
-];
+const OF_A_FAIR_GUARD: &[Play] = &[play!("writes", FAIR, WRITES)];
 
 #[test]
 fn a_guard_of_a_fair_mutex_lends_what_was_written(rt: HostRuntime) -> Result<(), Fail> {

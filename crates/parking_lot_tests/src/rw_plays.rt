@@ -327,8 +327,22 @@ const READS_BEHIND: &[Line] = &[
 
 const OF_READERS: &[Play] = &[
     play!("a writer", of!(5), READS_BEFORE, WRITES_BEHIND),
-    play!("readers of one", of!(1), WRITES_BEFORE, READS_BEHIND, READS_BEHIND, &[]),
-    play!("readers of five", of!(5), WRITES_BEFORE, READS_BEHIND, READS_BEHIND, &[]),
+    play!(
+        "readers of one",
+        of!(1),
+        WRITES_BEFORE,
+        READS_BEHIND,
+        READS_BEHIND,
+        &[]
+    ),
+    play!(
+        "readers of five",
+        of!(5),
+        WRITES_BEFORE,
+        READS_BEHIND,
+        READS_BEHIND,
+        &[]
+    ),
 ];
 
 #[test]
@@ -382,10 +396,38 @@ const LEFT_11: &[Line] = &[READ, get!(11), END];
 
 const OF_A_WRITER: &[Play] = &[
     play!("reads 0", of!(9), READS_0, WRITES_6, &[], LEFT_6),
-    play!("stops writing", of!(9), STOPS_WRITING, ADDS_BEHIND_A_WRITER, &[], LEFT_11),
-    play!("gives way as writer", of!(9), GIVES_WAY_AS_WRITER, ADDS_BEHIND_A_WRITER, &[], LEFT_11),
-    play!("stops reading", of!(9), STOPS_READING, ADDS_BEHIND_A_READER, &[], LEFT_10),
-    play!("gives way as reader", of!(9), GIVES_WAY_AS_READER, ADDS_BEHIND_A_READER, &[], LEFT_10),
+    play!(
+        "stops writing",
+        of!(9),
+        STOPS_WRITING,
+        ADDS_BEHIND_A_WRITER,
+        &[],
+        LEFT_11
+    ),
+    play!(
+        "gives way as writer",
+        of!(9),
+        GIVES_WAY_AS_WRITER,
+        ADDS_BEHIND_A_WRITER,
+        &[],
+        LEFT_11
+    ),
+    play!(
+        "stops reading",
+        of!(9),
+        STOPS_READING,
+        ADDS_BEHIND_A_READER,
+        &[],
+        LEFT_10
+    ),
+    play!(
+        "gives way as reader",
+        of!(9),
+        GIVES_WAY_AS_READER,
+        ADDS_BEHIND_A_READER,
+        &[],
+        LEFT_10
+    ),
 ];
 
 #[test]
@@ -438,9 +480,12 @@ const A_WRITER_GIVES_UP: &[Line] = &[
 /// Behind the writer that sleeps it asks to read, and comes in beside the reader.
 const COMES_IN: &[Line] = &[comes!(26), READ, word!(32), say!(1), END];
 
-const OF_ONE_THAT_GIVES_UP: &[Play] = &[
-    play!("a writer gives up", of!(5), A_WRITER_GIVES_UP, COMES_IN),
-];
+const OF_ONE_THAT_GIVES_UP: &[Play] = &[play!(
+    "a writer gives up",
+    of!(5),
+    A_WRITER_GIVES_UP,
+    COMES_IN
+)];
 
 #[test]
 fn those_that_a_writer_kept_out_come_in_once_it_gives_up(rt: HostRuntime) -> Result<(), Fail> {

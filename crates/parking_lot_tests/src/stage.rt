@@ -510,7 +510,10 @@ fn judge_crowd(rt: &impl Abort, crowd: &Crowd, outcome: Outcome) {
     let added = outcome.tally.added;
     assert!(rt; outcome.tally.right, "{name}: what was read");
     assert!(rt; outcome.said == added, "{name}: the count");
-    assert!(rt; (crowd.least <= added) & (added <= crowd.most), "{name}: {added} were added");
+    assert!(rt;
+        (crowd.least <= added) & (added <= crowd.most),
+        "{name}: {added} were added"
+    );
 }
 
 /// Has each crowd make its rounds at a new lock, whose word must be 0 in the end.

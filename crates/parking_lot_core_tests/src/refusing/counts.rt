@@ -1,30 +1,27 @@
 //! Which growths are refused and counted, by one thread and by two.
 
 use super::vectors::{Items, push_all};
-use refusing_heap::{Refusal, RefusingHeap};
+use refusing_heap::{Heap, Refusal, RefusingHeap};
 use std::test::Fail;
 use std::thread;
 
-#[test]
-fn growths_are_numbered_from_1(rt: HostRuntime) -> Result<(), Fail> {
-    let heap = RefusingHeap::new(rt.alloc(), Refusal::Once(2));
-    let one = Box::new(&heap, 1u8).is_ok();
-    let two = Box::new(&heap, 2u8).is_ok();
-    let three = Box::new(&heap, 3u8).is_ok();
-    assert!(rt; one && !two && three);
-    assert!(rt; heap.asked() == 3 && heap.refused() == 1);
-    Ok(())
+/// Which of three growths are made.
+fn made(heap: &Heap) -> [bool; 3] {
+    let one = Box::new(heap, 1u8).is_ok();
+    let two = Box::new(heap, 2u8).is_ok();
+    [one, two, Box::new(heap, 3u8).is_ok()]
 }
 
 #[test]
-fn a_heap_that_is_full_stays_so(rt: HostRuntime) -> Result<(), Fail> {
-    let heap = RefusingHeap::new(rt.alloc(), Refusal::Onwards(2));
-    let one = Box::new(&heap, 1u8).is_ok();
-    let two = Box::new(&heap, 2u8).is_ok();
-    let three = Box::new(&heap, 3u8).is_ok();
-    assert!(rt; one && !two && !three);
-    assert!(rt; heap.asked() == 3 && heap.refused() == 2);
-    Ok(())
+fn growths_are_numbered_from_1(rt: HostRuntime) {
+    for (refusal, answers, refused) in [
+        (Refusal::Once(2), [true, false, true], 1),
+        (Refusal::Onwards(2), [true, false, false], 2),
+    ] {
+        let heap = RefusingHeap::new(rt.alloc(), refusal);
+        let is_so = made(&heap) == answers;
+        assert!(rt; is_so && heap.asked() == 3 && heap.refused() == refused);
+    }
 }
 
 #[test]
