@@ -7,6 +7,9 @@ use std::test::Fail;
 /// A wait that gives up after 20 microseconds.
 const SHORT: How = How::For(20);
 
+/// A lock of nine readers.
+const OF_NINE: Kind = Kind::ReadWrite(9);
+
 /// Each round adds 1 under one hold, or under a second one that is nested in it.
 const ADDS: &[Round] = &[Round::Adds(How::Waits)];
 
@@ -30,38 +33,29 @@ const WRITES_AND_READS: &[Round] = &[
     Round::Reads(How::Waits),
 ];
 
-/// Such a crowd, which adds 1 from so often to so often.
-macro_rules! crowd {
-    ($name:expr, $kind:expr, $rounds:expr, $times:expr, $least:expr, $most:expr) => {
-        Crowd {
-            name: $name,
-            kind: $kind,
-            rounds: $rounds,
-            times: $times,
-            least: $least,
-            most: $most,
-        }
+/// How often 1 is added: any number of times, or at least once.
+const ANY: (u64, u64) = (0, u64::MAX);
+
+const SOME: (u64, u64) = (1, u64::MAX);
+
+/// So often.
+macro_rules! just {
+    ($count:expr) => {
+        ($count, $count)
     };
 }
 
-/// Writers of a lock of so many readers.
+/// Writers beside so many readers.
 macro_rules! writers {
     ($name:expr, $readers:expr) => {
-        crowd!($name, Kind::ReadWrite($readers), WRITES_AND_READS, 3_125, 25_000, 25_000)
+        ($name, Kind::ReadWrite($readers), WRITES_AND_READS, 3_125, just!(25_000))
     };
 }
 
 const WAIT: &[Crowd] = &[
-    crowd!("a mutex", Kind::Plain, ADDS, 25_000, 100_000, 100_000),
-    crowd!("nested", Kind::Reentrant, NESTS, 5_000, 20_000, 20_000),
-    crowd!(
-        "upgrades",
-        Kind::ReadWrite(9),
-        UPGRADES,
-        2_500,
-        10_000,
-        10_000
-    ),
+    ("a mutex", Kind::Plain, ADDS, 25_000, just!(100_000)),
+    ("nested", Kind::Reentrant, NESTS, 5_000, just!(20_000)),
+    ("upgrades", OF_NINE, UPGRADES, 2_500, just!(10_000)),
     writers!("writers beside a reader", 1),
     writers!("writers beside two readers", 2),
     writers!("writers beside a hundred readers", 100),
@@ -72,24 +66,14 @@ fn four_threads_exclude_each_other(rt: HostRuntime) -> Result<(), Fail> {
     crowd_each(rt, rt.alloc(), WAIT)
 }
 
-/// Tries keep nothing where they are refused, and a word is a writer's while it adds.
+/// A word is a writer's while it adds by a try.
+const TRIES: &[Round] = &[Round::AddsAt(How::Tries, 1)];
+
+const TRIES_AND_READS: &[Round] = &[Round::Reads(How::Tries), Round::AddsAt(How::Tries, 8)];
+
 const TRY: &[Crowd] = &[
-    crowd!(
-        "tries a mutex",
-        Kind::Plain,
-        &[Round::AddsAt(How::Tries, 1)],
-        25_000,
-        0,
-        u64::MAX
-    ),
-    crowd!(
-        "tries a lock",
-        Kind::ReadWrite(100),
-        &[Round::Reads(How::Tries), Round::AddsAt(How::Tries, 8)],
-        25_000,
-        0,
-        u64::MAX
-    ),
+    ("a mutex", Kind::Plain, TRIES, 25_000, ANY),
+    ("a lock", Kind::ReadWrite(100), TRIES_AND_READS, 25_000, ANY),
 ];
 
 #[test]
@@ -98,27 +82,17 @@ fn a_try_that_is_refused_keeps_nothing(rt: HostRuntime) -> Result<(), Fail> {
 }
 
 /// Waits that give up.
+const IN_TIME: &[Round] = &[Round::Adds(SHORT)];
+
+const ALL_IN_TIME: &[Round] = &[
+    Round::Adds(SHORT),
+    Round::Upgrades(SHORT, SHORT),
+    Round::Reads(SHORT),
+];
+
 const GIVE_UP: &[Crowd] = &[
-    crowd!(
-        "a mutex in time",
-        Kind::Plain,
-        &[Round::Adds(SHORT)],
-        2_000,
-        1,
-        u64::MAX
-    ),
-    crowd!(
-        "a lock in time",
-        Kind::ReadWrite(9),
-        &[
-            Round::Adds(SHORT),
-            Round::Upgrades(SHORT, SHORT),
-            Round::Reads(SHORT)
-        ],
-        667,
-        1,
-        u64::MAX
-    ),
+    ("a mutex", Kind::Plain, IN_TIME, 2_000, SOME),
+    ("a lock", OF_NINE, ALL_IN_TIME, 667, SOME),
 ];
 
 #[test]
@@ -127,23 +101,13 @@ fn four_threads_that_give_up_exclude_each_other(rt: HostRuntime) -> Result<(), F
 }
 
 /// Each guard finds what the one before left.
+const WRITES: &[Round] = &[Round::Writes(How::Waits)];
+
+const REREADS: &[Round] = &[Round::Writes(How::Waits), Round::Rereads(How::Waits)];
+
 const WRITE: &[Crowd] = &[
-    crowd!(
-        "a mutex's number",
-        Kind::Plain,
-        &[Round::Writes(How::Waits)],
-        50,
-        200,
-        200
-    ),
-    crowd!(
-        "a lock's number",
-        Kind::ReadWrite(5),
-        &[Round::Writes(How::Waits), Round::Rereads(How::Waits)],
-        50,
-        200,
-        200
-    ),
+    ("a mutex", Kind::Plain, WRITES, 50, just!(200)),
+    ("a lock", Kind::ReadWrite(5), REREADS, 50, just!(200)),
 ];
 
 #[test]

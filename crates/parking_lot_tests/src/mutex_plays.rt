@@ -1,7 +1,7 @@
 //! Plays at the running mutexes.
 
 use crate::calls::{Answer, Aside, Deed, How, Line, Mode, Step};
-use crate::stage::{Kind, Play, Setting, on, play, play_each};
+use crate::stage::{Kind, Play, Setting, on, play_each};
 use std::test::Fail;
 
 /// A mutex of each kind.
@@ -83,9 +83,9 @@ const IN_TIME: &[Line] = &[
 ];
 
 const OF_ONE: &[Play] = &[
-    play!("alone", PLAIN, ALONE),
-    play!("plain in time", PLAIN, IN_TIME),
-    play!("fair in time", FAIR, IN_TIME),
+    ("alone", PLAIN, [ALONE, &[], &[], &[]]),
+    ("plain in time", PLAIN, [IN_TIME, &[], &[], &[]]),
+    ("fair in time", FAIR, [IN_TIME, &[], &[], &[]]),
 ];
 
 #[test]
@@ -107,11 +107,11 @@ const BUMPS: &[Line] = &[LOCK, PARKED, SAY_1, BUMP, SAID_2, END];
 const UNLOCKS_FOR_ANYBODY: &[Line] = &[LOCK, PARKED, SAY_1, END, LOCK, END];
 
 const OF_TWO: &[Play] = &[
-    play!("fair, unlocked", FAIR, UNLOCKS, SECOND),
-    play!("fair, handed over", FAIR, HANDS_OVER, SECOND),
-    play!("fair, bumped", FAIR, BUMPS, SECOND),
-    play!("plain, handed over", PLAIN, HANDS_OVER, SECOND),
-    play!("plain, bumped", PLAIN, BUMPS, SECOND),
+    ("fair, unlocked", [FAIR, UNLOCKS, SECOND, &[]]),
+    ("fair, handed over", [FAIR, HANDS_OVER, SECOND, &[]]),
+    ("fair, bumped", [FAIR, BUMPS, SECOND, &[]]),
+    ("plain, handed over", [PLAIN, HANDS_OVER, SECOND, &[]]),
+    ("plain, bumped", [PLAIN, BUMPS, SECOND, &[]]),
 ];
 
 #[test]
@@ -134,14 +134,17 @@ const OF_ANOTHER_LOT: Setting = Setting {
 };
 
 const OF_A_SLEEPER: &[Play] = &[
-    play!("a sleeper", PLAIN, UNLOCKS_FOR_ANYBODY, SECOND),
-    play!(
+    ("a sleeper", PLAIN, [UNLOCKS_FOR_ANYBODY, SECOND, &[], &[]]),
+    (
         "of another lot",
         OF_ANOTHER_LOT,
-        UNLOCKS_FOR_ANYBODY,
-        SECOND
+        [UNLOCKS_FOR_ANYBODY, SECOND, &[], &[]],
     ),
-    play!("fair by the lot", FAIR_BY_THE_LOT, UNLOCKS, SECOND),
+    (
+        "fair by the lot",
+        FAIR_BY_THE_LOT,
+        [UNLOCKS, SECOND, &[], &[]],
+    ),
 ];
 
 #[test]
@@ -169,15 +172,12 @@ const HANDS_OVER_TO_ONE: &[Line] = &[LOCK, PUT_1, PARKED, END_FAIRLY, REFUSED, S
 const GOES_SECOND: &[Line] = &[LOCK, PUT_1, PARKED, SAY_1, BUMP, GET_11, END];
 
 const OF_GUARDS: &[Play] = &[
-    play!(
+    (
         "a fair end",
         PLAIN,
-        HANDS_OVER_TO_ONE,
-        ADDS_BEHIND,
-        &[],
-        LEFT_11
+        [HANDS_OVER_TO_ONE, ADDS_BEHIND, &[], LEFT_11],
     ),
-    play!("a bump", PLAIN, GOES_SECOND, ADDS_BEHIND, &[], LEFT_11),
+    ("a bump", PLAIN, [GOES_SECOND, ADDS_BEHIND, &[], LEFT_11]),
 ];
 
 #[test]
@@ -194,7 +194,7 @@ const WRITES: &[Line] = &[
     (Step::Aside(Aside::Locked), Answer::No),
 ];
 
-const OF_A_FAIR_GUARD: &[Play] = &[play!("writes", FAIR, WRITES)];
+const OF_A_FAIR_GUARD: &[Play] = &[("writes", FAIR, [WRITES, &[], &[], &[]])];
 
 #[test]
 fn a_guard_of_a_fair_mutex_lends_what_was_written(rt: HostRuntime) -> Result<(), Fail> {
@@ -244,8 +244,12 @@ const NESTS_BEFORE: &[Line] = &[
 const LOCKS_BEHIND: &[Line] = &[LOCKED, LOCK, SAID_1, END];
 
 const OF_HOLDS: &[Play] = &[
-    play!("nested", REENTRANT, NESTED),
-    play!("behind the last", REENTRANT, NESTS_BEFORE, LOCKS_BEHIND),
+    ("nested", REENTRANT, [NESTED, &[], &[], &[]]),
+    (
+        "behind the last",
+        REENTRANT,
+        [NESTS_BEFORE, LOCKS_BEHIND, &[], &[]],
+    ),
 ];
 
 #[test]

@@ -1,7 +1,7 @@
 //! Plays at the running reader-writer locks.
 
 use crate::calls::{Answer, Aside, Deed, How, Line, Mode, Step, Turn};
-use crate::stage::{Kind, Play, Setting, on, play, play_each};
+use crate::stage::{Kind, Play, Setting, on, play_each};
 use std::test::Fail;
 
 /// A lock of so many readers.
@@ -292,15 +292,27 @@ const READS_OR_WRITES: &[Line] = &[
 ];
 
 const OF_ONE: &[Play] = &[
-    play!("two readers", of!(2), TWO_READERS),
-    play!("a writer", of!(0), A_WRITER),
-    play!("an upgradable owner", of!(5), AN_UPGRADABLE_OWNER),
-    play!("a refused upgrade", of!(5), A_REFUSED_UPGRADE),
-    play!("an upgrade in time", of!(5), AN_UPGRADE_IN_TIME),
-    play!("the one reader", of!(1), THE_ONE_READER),
-    play!("in time", of!(5), IN_TIME),
-    play!("reads or writes", of!(5), READS_OR_WRITES),
-    play!("in time, recursive", RECURSIVE, IN_TIME),
+    ("two readers", of!(2), [TWO_READERS, &[], &[], &[]]),
+    ("a writer", of!(0), [A_WRITER, &[], &[], &[]]),
+    (
+        "an upgradable owner",
+        of!(5),
+        [AN_UPGRADABLE_OWNER, &[], &[], &[]],
+    ),
+    (
+        "a refused upgrade",
+        of!(5),
+        [A_REFUSED_UPGRADE, &[], &[], &[]],
+    ),
+    (
+        "an upgrade in time",
+        of!(5),
+        [AN_UPGRADE_IN_TIME, &[], &[], &[]],
+    ),
+    ("the one reader", of!(1), [THE_ONE_READER, &[], &[], &[]]),
+    ("in time", of!(5), [IN_TIME, &[], &[], &[]]),
+    ("reads or writes", of!(5), [READS_OR_WRITES, &[], &[], &[]]),
+    ("in time, recursive", [RECURSIVE, IN_TIME, &[], &[]]),
 ];
 
 #[test]
@@ -326,22 +338,16 @@ const READS_BEHIND: &[Line] = &[
 ];
 
 const OF_READERS: &[Play] = &[
-    play!("a writer", of!(5), READS_BEFORE, WRITES_BEHIND),
-    play!(
+    ("a writer", of!(5), [READS_BEFORE, WRITES_BEHIND, &[], &[]]),
+    (
         "readers of one",
         of!(1),
-        WRITES_BEFORE,
-        READS_BEHIND,
-        READS_BEHIND,
-        &[]
+        [WRITES_BEFORE, READS_BEHIND, READS_BEHIND, &[]],
     ),
-    play!(
+    (
         "readers of five",
         of!(5),
-        WRITES_BEFORE,
-        READS_BEHIND,
-        READS_BEHIND,
-        &[]
+        [WRITES_BEFORE, READS_BEHIND, READS_BEHIND, &[]],
     ),
 ];
 
@@ -357,9 +363,9 @@ const READS_0: &[Line] = &[READ, comes!(26), NO_READER, get!(0), END];
 const WRITES_6: &[Line] = &[comes!(16), WRITE, put!(6), END];
 
 /// Once the word is as told, it adds 10, and keeps the guard until the other thread has looked.
-const ADDS_BEHIND_A_WRITER: &[Line] = &[comes!(8), WRITE, ADD_10, hear!(1), END];
+const ADDS_AT_8: &[Line] = &[comes!(8), WRITE, ADD_10, hear!(1), END];
 
-const ADDS_BEHIND_A_READER: &[Line] = &[comes!(16), WRITE, ADD_10, hear!(1), END];
+const ADDS_AT_16: &[Line] = &[comes!(16), WRITE, ADD_10, hear!(1), END];
 
 /// What a guard does once a writer sleeps behind it: nobody else comes in before that one, or it has been there behind
 /// a bump.
@@ -373,7 +379,7 @@ const STOPS_WRITING: &[Line] = &[
     say!(1),
 ];
 
-const GIVES_WAY_AS_WRITER: &[Line] = &[WRITE, put!(1), comes!(9), say!(1), BUMP, get!(11), END];
+const GIVES_WAY_AT_8: &[Line] = &[WRITE, put!(1), comes!(9), say!(1), BUMP, get!(11), END];
 
 const STOPS_READING: &[Line] = &[
     READ,
@@ -385,7 +391,7 @@ const STOPS_READING: &[Line] = &[
     say!(1),
 ];
 
-const GIVES_WAY_AS_READER: &[Line] = &[READ, comes!(26), get!(0), say!(1), BUMP, get!(10), END];
+const GIVES_WAY_AT_16: &[Line] = &[READ, comes!(26), get!(0), say!(1), BUMP, get!(10), END];
 
 /// What the guard lends in the end.
 const LEFT_6: &[Line] = &[READ, get!(6), END];
@@ -395,38 +401,26 @@ const LEFT_10: &[Line] = &[READ, get!(10), END];
 const LEFT_11: &[Line] = &[READ, get!(11), END];
 
 const OF_A_WRITER: &[Play] = &[
-    play!("reads 0", of!(9), READS_0, WRITES_6, &[], LEFT_6),
-    play!(
+    ("reads 0", of!(9), [READS_0, WRITES_6, &[], LEFT_6]),
+    (
         "stops writing",
         of!(9),
-        STOPS_WRITING,
-        ADDS_BEHIND_A_WRITER,
-        &[],
-        LEFT_11
+        [STOPS_WRITING, ADDS_AT_8, &[], LEFT_11],
     ),
-    play!(
+    (
         "gives way as writer",
         of!(9),
-        GIVES_WAY_AS_WRITER,
-        ADDS_BEHIND_A_WRITER,
-        &[],
-        LEFT_11
+        [GIVES_WAY_AT_8, ADDS_AT_8, &[], LEFT_11],
     ),
-    play!(
+    (
         "stops reading",
         of!(9),
-        STOPS_READING,
-        ADDS_BEHIND_A_READER,
-        &[],
-        LEFT_10
+        [STOPS_READING, ADDS_AT_16, &[], LEFT_10],
     ),
-    play!(
+    (
         "gives way as reader",
         of!(9),
-        GIVES_WAY_AS_READER,
-        ADDS_BEHIND_A_READER,
-        &[],
-        LEFT_10
+        [GIVES_WAY_AT_16, ADDS_AT_16, &[], LEFT_10],
     ),
 ];
 
@@ -458,9 +452,17 @@ const READS_ON: &[Line] = &[
 ];
 
 const OF_A_READER: &[Play] = &[
-    play!("reads again", RECURSIVE, READS_AGAIN, WRITES_BEHIND),
-    play!("reads on", RECURSIVE, READS_ON, WRITES_BEHIND),
-    play!("asks in vain", of!(5), ASKS_IN_VAIN, WRITES_BEHIND),
+    (
+        "reads again",
+        RECURSIVE,
+        [READS_AGAIN, WRITES_BEHIND, &[], &[]],
+    ),
+    ("reads on", RECURSIVE, [READS_ON, WRITES_BEHIND, &[], &[]]),
+    (
+        "asks in vain",
+        of!(5),
+        [ASKS_IN_VAIN, WRITES_BEHIND, &[], &[]],
+    ),
 ];
 
 #[test]
@@ -480,11 +482,10 @@ const A_WRITER_GIVES_UP: &[Line] = &[
 /// Behind the writer that sleeps it asks to read, and comes in beside the reader.
 const COMES_IN: &[Line] = &[comes!(26), READ, word!(32), say!(1), END];
 
-const OF_ONE_THAT_GIVES_UP: &[Play] = &[play!(
+const OF_ONE_THAT_GIVES_UP: &[Play] = &[(
     "a writer gives up",
     of!(5),
-    A_WRITER_GIVES_UP,
-    COMES_IN
+    [A_WRITER_GIVES_UP, COMES_IN, &[], &[]],
 )];
 
 #[test]

@@ -4,10 +4,11 @@
 use crate::calls::{Line, NOTHING, Round, Tally, Verdict, WRONG, sum};
 use crate::scene::Scene;
 use crate::{mutex_steps, reentrant_steps, rw_steps};
-use lock_api::{Mutex, ReentrantMutex, RwLock};
+use lock_api::{Mutex, ReentrantMutex, RwLock, TableFull};
 use lock_api_raw::{
-    GetThreadId, RawMutex as AnyRawMutex, RawMutexFair, RawMutexTimed, RawRwLock as AnyRawRwLock,
-    RawRwLockUpgradeDowngrade, RawRwLockUpgradeFair, RawRwLockUpgradeTimed,
+    GetThreadId, MakeLock, RawMutex as AnyRawMutex, RawMutexFair, RawMutexTimed,
+    RawRwLock as AnyRawRwLock, RawRwLockUpgradeDowngrade, RawRwLockUpgradeFair,
+    RawRwLockUpgradeTimed,
 };
 use parking_lot_core::{DEFAULT_UNPARK_TOKEN, ParkingLot, ThreadData, unpark_one};
 use parking_lot_mutex::{RawFairMutex, RawMutex, RawThreadId};
@@ -53,48 +54,17 @@ macro_rules! on {
     };
 }
 
-/// A play at a new lock: what each thread does, and what is done once they have ended.
-#[derive(Clone, Copy)]
-pub struct Play {
-    pub name: &'static str,
-    pub setting: Setting,
-    pub lines: Lines<'static>,
-}
-
-/// A play of one thread, or of those that follow these lines.
-macro_rules! play {
-    ($name:expr, $setting:expr, $first:expr) => {
-        crate::stage::play!($name, $setting, $first, &[], &[], &[])
-    };
-    ($name:expr, $setting:expr, $first:expr, $second:expr) => {
-        crate::stage::play!($name, $setting, $first, $second, &[], &[])
-    };
-    ($name:expr, $setting:expr, $first:expr, $second:expr, $third:expr, $last:expr) => {
-        crate::stage::Play {
-            name: $name,
-            setting: $setting,
-            lines: [$first, $second, $third, $last],
-        }
-    };
-}
-
 pub(crate) use on;
-pub(crate) use play;
-
-/// Four threads that make the rounds so many times at a new lock of that kind, and how often they add 1 at least and at
-/// most.
-#[derive(Clone, Copy)]
-pub struct Crowd {
-    pub name: &'static str,
-    pub kind: Kind,
-    pub rounds: &'static [Round],
-    pub times: u32,
-    pub least: u64,
-    pub most: u64,
-}
 
 /// What each thread does, and what is done once they have ended.
 pub type Lines<'s> = [&'s [Line]; 4];
+
+/// A play at a new lock.
+pub type Play = (&'static str, Setting, Lines<'static>);
+
+/// Four threads that make the rounds so many times at a new lock of that kind, and how often they add 1 at least and at
+/// most.
+pub type Crowd = (&'static str, Kind, &'static [Round], u32, (u64, u64));
 
 /// A lock that threads play at, whichever it is.
 trait Stage<R: Wait + Clock> {
@@ -357,57 +327,54 @@ fn happen<'s, 'l, R: Wait + Threads + Clock + Sync, L: Stage<R> + Sync>(
     }
 }
 
-/// Has it happen at a mutex.
+/// Has it happen at a new mutex.
 fn at_mutex<'s, 'l, R: Wait + Threads + Clock + Sync, M>(
     rt: &'s R,
     table: &'s LockTable<'l, R>,
     lots: (&ParkingLot<R>, &ParkingLot<R>),
-    mutex: &Mutex<M, u64>,
     past: Instant,
     plan: Plan,
-) -> Outcome
+) -> Result<Outcome, TableFull>
 where
-    M: AnyRawMutex<Party = ThreadData> + RawMutexFair + Sync,
-    M: RawMutexTimed<Duration = Duration, Instant = Instant>,
+    M: AnyRawMutex<Party = ThreadData> + RawMutexFair + MakeLock<&'s LockTable<'l, R>>,
+    M: RawMutexTimed<Duration = Duration, Instant = Instant> + Drop + Sync,
     M::Runtime: Wait,
 {
-    happen(rt, table, lots, mutex, past, plan)
+    let mutex: Mutex<M, u64> = Mutex::new(table, 0)?;
+    Ok(happen(rt, table, lots, &mutex, past, plan))
 }
 
-/// Has it happen at a reader-writer lock.
+/// Has it happen at a new reader-writer lock.
 fn at_rwlock<'s, 'l, R: Wait + Threads + Clock + Sync, L>(
     rt: &'s R,
     table: &'s LockTable<'l, R>,
     lots: (&ParkingLot<R>, &ParkingLot<R>),
-    lock: &RwLock<L, u64>,
+    readers: u64,
     past: Instant,
     plan: Plan,
-) -> Outcome
+) -> Result<Outcome, TableFull>
 where
-    L: AnyRawRwLock<Party = ThreadData> + RawRwLockUpgradeFair + RawRwLockUpgradeDowngrade + Sync,
-    L: RawRwLockUpgradeTimed<Duration = Duration, Instant = Instant>,
+    L: AnyRawRwLock<Party = ThreadData> + RawRwLockUpgradeFair + RawRwLockUpgradeDowngrade,
+    L: RawRwLockUpgradeTimed<Duration = Duration, Instant = Instant> + Drop + Sync,
+    L: MakeLock<&'s LockTable<'l, R>>,
     L::Runtime: Wait,
 {
-    happen(rt, table, lots, lock, past, plan)
+    let lock: RwLock<L, u64> = RwLock::new(table, readers, 0)?;
+    Ok(happen(rt, table, lots, &lock, past, plan))
 }
 
-/// Has it happen at a reentrant mutex.
-fn at_reentrant<'s, 'l, R: Wait + Threads + Clock + Sync, M, G>(
+/// Has it happen at a new reentrant mutex of two holds.
+fn at_reentrant<'s, 'l, R: Wait + Threads + Clock + Sync>(
     rt: &'s R,
     table: &'s LockTable<'l, R>,
     lots: (&ParkingLot<R>, &ParkingLot<R>),
-    mutex: &ReentrantMutex<M, G, u64>,
     past: Instant,
     plan: Plan,
-) -> Outcome
-where
-    M: AnyRawMutex<Party = ThreadData> + RawMutexFair + Drop + Sync,
-    M: RawMutexTimed<Duration = Duration, Instant = Instant>,
-    G: GetThreadId<Party = ThreadData> + Drop + Sync,
-    M::Guard: Send + Sync,
-    M::Runtime: Wait,
-{
-    happen(rt, table, lots, mutex, past, plan)
+) -> Result<Outcome, TableFull> {
+    let mutex: ReentrantMutex<RawMutex<'_, '_, R>, RawThreadId, u64> = ReentrantMutex::new(
+        table, 2, 5,
+    )?;
+    Ok(happen(rt, table, lots, &mutex, past, plan))
 }
 
 /// Has it happen at a new lock of that kind.
@@ -418,30 +385,17 @@ fn at_new<'s, 'l, R: Wait + Threads + Clock + Sync>(
     kind: Kind,
     past: Instant,
     plan: Plan,
-) -> Result<Outcome, Fail> {
+) -> Result<Outcome, TableFull> {
     match kind {
-        Kind::Plain => {
-            let mutex: Mutex<RawMutex<'_, '_, R>, u64> = Mutex::new(table, 0)?;
-            Ok(at_mutex(rt, table, lots, &mutex, past, plan))
-        },
-        Kind::Fair => {
-            let mutex: Mutex<RawFairMutex<'_, '_, R>, u64> = Mutex::new(table, 0)?;
-            Ok(at_mutex(rt, table, lots, &mutex, past, plan))
-        },
-        Kind::ReadWrite(limit) => {
-            let lock: RwLock<RawRwLock<'_, '_, R, 0>, u64> = RwLock::new(table, limit, 0)?;
-            Ok(at_rwlock(rt, table, lots, &lock, past, plan))
-        },
-        Kind::Recursive(limit) => {
-            let lock: RwLock<RawRwLock<'_, '_, R, 1>, u64> = RwLock::new(table, limit, 0)?;
-            Ok(at_rwlock(rt, table, lots, &lock, past, plan))
-        },
-        Kind::Reentrant => {
-            let mutex: ReentrantMutex<RawMutex<'_, '_, R>, RawThreadId, u64> = ReentrantMutex::new(
-                table, 2, 5,
-            )?;
-            Ok(at_reentrant(rt, table, lots, &mutex, past, plan))
-        },
+        Kind::Plain => at_mutex::<R, RawMutex<'_, '_, R>>(rt, table, lots, past, plan),
+        Kind::Fair => at_mutex::<R, RawFairMutex<'_, '_, R>>(rt, table, lots, past, plan),
+        Kind::ReadWrite(most) => {
+            at_rwlock::<R, RawRwLock<'_, '_, R, 0>>(rt, table, lots, most, past, plan)
+        }
+        Kind::Recursive(most) => {
+            at_rwlock::<R, RawRwLock<'_, '_, R, 1>>(rt, table, lots, most, past, plan)
+        }
+        Kind::Reentrant => at_reentrant(rt, table, lots, past, plan),
     }
 }
 
@@ -492,26 +446,25 @@ pub fn play_each<R: Wait + Threads + Clock + Abort + Sync + Copy + Drop>(
     alloc: Global,
     plays: &[Play],
 ) -> Result<(), Fail> {
-    for play in plays {
+    for (name, setting, lines) in plays {
         let plan = Plan {
-            lines: play.lines,
+            lines: *lines,
             rounds: &[],
             times: 0,
         };
-        let (outcome, word) = staged(rt, alloc, play.setting, plan)?;
-        judge(&rt, play.name, word, &outcome.verdicts);
+        let (outcome, word) = staged(rt, alloc, *setting, plan)?;
+        judge(&rt, name, word, &outcome.verdicts);
     }
     Ok(())
 }
 
 /// Looks whether what was added is the count, and as much as is to be.
-fn judge_crowd(rt: &impl Abort, crowd: &Crowd, outcome: Outcome) {
-    let name = crowd.name;
+fn judge_crowd(rt: &impl Abort, name: &str, outcome: Outcome, least: u64, most: u64) {
     let added = outcome.tally.added;
     assert!(rt; outcome.tally.right, "{name}: what was read");
     assert!(rt; outcome.said == added, "{name}: the count");
     assert!(rt;
-        (crowd.least <= added) & (added <= crowd.most),
+        (least <= added) & (added <= most),
         "{name}: {added} were added"
     );
 }
@@ -522,15 +475,15 @@ pub fn crowd_each<R: Wait + Threads + Clock + Abort + Sync + Copy + Drop>(
     alloc: Global,
     crowds: &[Crowd],
 ) -> Result<(), Fail> {
-    for crowd in crowds {
+    for (name, kind, rounds, times, (least, most)) in crowds {
         let plan = Plan {
             lines: [&[], &[], &[], &[]],
-            rounds: crowd.rounds,
-            times: crowd.times,
+            rounds,
+            times: *times,
         };
-        let (outcome, word) = staged(rt, alloc, on!(crowd.kind), plan)?;
-        judge(&rt, crowd.name, word, &[]);
-        judge_crowd(&rt, crowd, outcome);
+        let (outcome, word) = staged(rt, alloc, on!(*kind), plan)?;
+        judge(&rt, name, word, &[]);
+        judge_crowd(&rt, name, outcome, *least, *most);
     }
     Ok(())
 }
