@@ -81,36 +81,23 @@ const HANDED: &[WaitLine] = &[(
     WaitAct::Done(WaitAnswer::Woken),
 )];
 
-/// A waiter gives up as the last one in the list of the condition variable, or in the mutex's.
-const GIVES_UP: &[WaitLine] = &[
-    (WaitSeen::Expired, WaitAct::Reenters),
-    (WaitSeen::Made, WaitAct::TakesItself),
-    (
-        WaitSeen::Quit {
-            here: true,
-            last: true,
-        },
-        WaitAct::Forgets,
-    ),
-    (WaitSeen::Made, WaitAct::Leave),
-    (WaitSeen::Made, WaitAct::LocksMutex),
-    (WaitSeen::Made, WaitAct::Done(WaitAnswer::TimedOut)),
-];
+/// A waiter takes itself out as the last one in a list: of the condition variable, or of the mutex.
+macro_rules! gives_up {
+    ($here:expr, $act:expr, $answer:expr) => {
+        &[
+            (WaitSeen::Expired, WaitAct::Reenters),
+            (WaitSeen::Made, WaitAct::TakesItself),
+            (WaitSeen::Quit { here: $here, last: true }, $act),
+            (WaitSeen::Made, WaitAct::Leave),
+            (WaitSeen::Made, WaitAct::LocksMutex),
+            (WaitSeen::Made, WaitAct::Done($answer)),
+        ]
+    };
+}
 
-const GIVES_UP_ELSEWHERE: &[WaitLine] = &[
-    (WaitSeen::Expired, WaitAct::Reenters),
-    (WaitSeen::Made, WaitAct::TakesItself),
-    (
-        WaitSeen::Quit {
-            here: false,
-            last: true,
-        },
-        WaitAct::MasksMutex,
-    ),
-    (WaitSeen::Made, WaitAct::Leave),
-    (WaitSeen::Made, WaitAct::LocksMutex),
-    (WaitSeen::Made, WaitAct::Done(WaitAnswer::Woken)),
-];
+const GIVES_UP: &[WaitLine] = gives_up!(true, WaitAct::Forgets, WaitAnswer::TimedOut);
+
+const GIVES_UP_ELSEWHERE: &[WaitLine] = gives_up!(false, WaitAct::MasksMutex, WaitAnswer::Woken);
 
 /// A waiter that was taken goes on.
 const TAKEN: &[WaitLine] = &[
@@ -128,15 +115,15 @@ const REFUSED: &[WaitLine] = &[
     (WaitSeen::Made, WaitAct::Done(WaitAnswer::WrongMutex)),
 ];
 
-const OF_ANOTHER_LOT: &[WaitLine] = &[
-    (WaitSeen::Start, WaitAct::Load),
-    (WaitSeen::Word(0), WaitAct::Done(WaitAnswer::WrongLot)),
-];
-
-const OF_ANOTHER_LOT_BESIDE_ONE: &[WaitLine] = &[
-    (WaitSeen::Start, WaitAct::Load),
-    (WaitSeen::Word(5), WaitAct::Done(WaitAnswer::WrongMutex)),
-];
+/// A wait with a mutex of another lot finds the word.
+macro_rules! of_another_lot {
+    ($word:expr, $answer:expr) => {
+        &[
+            (WaitSeen::Start, WaitAct::Load),
+            (WaitSeen::Word($word), WaitAct::Done($answer)),
+        ]
+    };
+}
 
 /// What waits are told.
 const WAITS: &[(&'static str, Wait, &'static [WaitLine])] = &[
@@ -146,11 +133,15 @@ const WAITS: &[(&'static str, Wait, &'static [WaitLine])] = &[
     ("gives up elsewhere", Wait::Asleep(0), GIVES_UP_ELSEWHERE),
     ("taken", Wait::Asleep(0), TAKEN),
     ("refused", Wait::New, REFUSED),
-    ("of another lot", Wait::OfAStranger, OF_ANOTHER_LOT),
+    (
+        "of another lot",
+        Wait::OfAStranger,
+        of_another_lot!(0, WaitAnswer::WrongLot),
+    ),
     (
         "of another lot, beside one",
         Wait::OfAStranger,
-        OF_ANOTHER_LOT_BESIDE_ONE,
+        of_another_lot!(5, WaitAnswer::WrongMutex),
     ),
 ];
 

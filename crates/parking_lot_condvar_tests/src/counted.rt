@@ -61,25 +61,15 @@ fn turns<'t, 'l, R: Wait>(shared: &Shared<'t, 'l, R>, gives: bool) -> u64 {
     done
 }
 
-/// How often one thread that hands over and one that takes have done so.
-fn two<R: Wait + Threads + Sync>(rt: &R, shared: &Shared<'_, '_, R>) -> (u64, u64) {
-    thread::join(rt, || turns(shared, true), || turns(shared, false))
-}
-
-/// Whether four threads have done so as often as each is to.
-fn is_none_lost<R: Wait + Threads + Sync>(rt: &R, shared: &Shared<'_, '_, R>) -> bool {
-    let done = thread::join(rt, || two(rt, shared), || two(rt, shared));
-    done == ((25_000, 25_000), (25_000, 25_000))
-}
-
-/// Four threads that hand over and take.
+/// Four threads, of which each second one hands over, and the others take.
 #[derive(Clone, Copy)]
 struct Counted;
 
 impl<R: Wait + Threads + Sync> Trial<R> for Counted {
-    fn goes(self, rt: &R, _alloc: Global, table: &LockTable<'_, R>) -> Result<bool, Fail> {
+    fn goes(self, rt: &R, alloc: Global, table: &LockTable<'_, R>) -> Result<bool, Fail> {
         let shared = Shared::on(table)?;
-        Ok(is_none_lost(rt, &shared))
+        let done = thread::map_indices(rt, alloc, 4, &|number| turns(&shared, number % 2 == 0))?;
+        Ok(done.iter().all(|count| *count == 25_000))
     }
 }
 

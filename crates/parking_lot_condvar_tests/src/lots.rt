@@ -12,6 +12,13 @@ pub struct Lots<R> {
     pub other: ParkingLot<R>,
 }
 
+impl<R> Lots<R> {
+    /// The first lot where this is its number, and else the other.
+    pub fn of(&self, number: u64) -> &ParkingLot<R> {
+        if number == 7 { &self.one } else { &self.other }
+    }
+}
+
 /// Lots of the numbers 7 and 8.
 pub fn two_lots<R: Drop + Copy>(rt: R, alloc: Global) -> Result<Lots<R>, Fail> {
     Ok(Lots {

@@ -6,29 +6,8 @@ use parking_lot_protocol_waits::once::{OnceAnswer, OnceCore, OnceState};
 /// What a call is told, and what it must ask for.
 type Line = (ActResult, Act);
 
-/// Which call is told something.
-#[derive(Clone, Copy)]
-enum Call {
-    Once,
-    /// The end of a closure that has failed.
-    Failed,
-    Wait,
-    WaitForce,
-}
-
-/// A call that was told nothing yet.
-fn new(call: Call) -> OnceCore {
-    match call {
-        Call::Once => OnceCore::call_once(),
-        Call::Failed => OnceCore::finish(false),
-        Call::Wait => OnceCore::wait(),
-        Call::WaitForce => OnceCore::wait_force(),
-    }
-}
-
 /// Whether a call that is told these, one after another, asks for those acts, and what it answers in the end.
-fn asks(call: Call, lines: &[Line]) -> (bool, Option<OnceAnswer>) {
-    let mut core = new(call);
+fn asks(mut core: OnceCore, lines: &[Line]) -> (bool, Option<OnceAnswer>) {
     let mut ok = true;
     for (seen, act) in lines {
         ok = ok & (core.next(*seen) == *act);
@@ -105,23 +84,12 @@ const SLEEPS: &[Line] = &[
     (ActResult::Word(10), Act::Enter(0)),
 ];
 
-/// What calls are told, and answer in the end.
-const CALLS: &[(&'static str, Call, &'static [Line], Option<OnceAnswer>)] = &[
-    (
-        "runs",
-        Call::Once,
-        RUNS,
-        Some(OnceAnswer::Runs(OnceState::New)),
-    ),
-    ("waits", Call::Once, WAITS, Some(OnceAnswer::Completed)),
-    ("ends", Call::Failed, ENDS, Some(OnceAnswer::Finished)),
-    ("told oddly", Call::Wait, TOLD_ODDLY, None),
-    ("sleeps", Call::WaitForce, SLEEPS, None),
-];
-
 #[test]
 fn calls_ask_for_what_they_must(rt: HostRuntime) {
-    for (name, call, lines, answer) in CALLS {
-        assert!(rt; asks(*call, lines) == (true, *answer), "{name}");
-    }
+    let runs = Some(OnceAnswer::Runs(OnceState::New));
+    assert!(rt; asks(OnceCore::call_once(), RUNS) == (true, runs));
+    assert!(rt; asks(OnceCore::call_once(), WAITS) == (true, Some(OnceAnswer::Completed)));
+    assert!(rt; asks(OnceCore::finish(false), ENDS) == (true, Some(OnceAnswer::Finished)));
+    assert!(rt; asks(OnceCore::wait(), TOLD_ODDLY) == (true, None));
+    assert!(rt; asks(OnceCore::wait_force(), SLEEPS) == (true, None));
 }

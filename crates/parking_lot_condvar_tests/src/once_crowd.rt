@@ -1,6 +1,7 @@
 //! Many threads at once.
 
 use crate::lots::{Trial, goes_on_table};
+use parking_lot_core::ThreadData;
 use parking_lot_driver::LockTable;
 use parking_lot_mutex::once::Once;
 use std::alloc::Global;
@@ -23,76 +24,52 @@ fn run(runs: &AtomicU64) -> u64 {
     seen
 }
 
-/// Calls at each thing, and answers whether one closure had run there by then.
-fn comes<R: Wait>(table: &LockTable<'_, R>, things: &[Thing<'_, '_, R>]) -> bool {
-    let Ok(mut me) = table.lot().thread_data() else {
-        return false;
-    };
-    let mut ok = true;
-    for (once, runs) in things {
-        let ended = once.call_once(&mut me, || {
-            run(runs);
-            Ok::<(), u8>(())
-        });
-        ok = ok & ended.is_ok() & (runs.load(Ordering::SeqCst) == 1);
-    }
-    ok
+/// What each of four threads does at each thing.
+#[derive(Clone, Copy)]
+enum Crowd {
+    /// It calls with a closure, of which one has run by then.
+    Calls,
+    /// It forces a call, with a closure that fails unless two have failed there.
+    Forces,
 }
 
-/// Forces a call at each thing, with a closure that fails unless two have failed there; how many of the calls have
-/// ended well.
-fn goes_through<R: Wait>(table: &LockTable<'_, R>, things: &[Thing<'_, '_, R>]) -> usize {
+/// Whether a call ends well, and one closure has run by then.
+fn calls<R: Wait>(thing: &Thing<'_, '_, R>, me: &mut ThreadData) -> bool {
+    let ended = thing.0.call_once(me, || {
+        run(&thing.1);
+        Ok::<(), u8>(())
+    });
+    ended.is_ok() & (thing.1.load(Ordering::SeqCst) == 1)
+}
+
+/// Whether a forced call ends well.
+fn forces<R: Wait>(thing: &Thing<'_, '_, R>, me: &mut ThreadData) -> bool {
+    let ended = thing.0.call_once_force(me, |_before| {
+        if run(&thing.1) < 2 { Err(5u8) } else { Ok(()) }
+    });
+    ended.is_ok()
+}
+
+/// How many of a thread's calls end well.
+fn takes_part<R: Wait>(
+    table: &LockTable<'_, R>,
+    things: &[Thing<'_, '_, R>],
+    crowd: Crowd,
+) -> usize {
     let Ok(mut me) = table.lot().thread_data() else {
         return 0;
     };
     let mut well = 0usize;
-    for (once, runs) in things {
-        let ended = once.call_once_force(&mut me, |_before| {
-            if run(runs) < 2 { Err(5u8) } else { Ok(()) }
-        });
-        if ended.is_ok() {
+    for thing in things {
+        let is_well = match crowd {
+            Crowd::Calls => calls(thing, &mut me),
+            Crowd::Forces => forces(thing, &mut me),
+        };
+        if is_well {
             well = well.wrapping_add(1);
         }
     }
     well
-}
-
-/// Whether four threads that call find that one closure has run at each thing.
-fn all_come<R: Wait + Threads + Sync>(
-    rt: &R,
-    table: &LockTable<'_, R>,
-    things: &[Thing<'_, '_, R>],
-) -> bool {
-    let two = || thread::join(rt, || comes(table, things), || comes(table, things));
-    thread::join(rt, two, two) == ((true, true), (true, true))
-}
-
-/// How many of the forced calls of two threads have ended well.
-fn two_go_through<R: Wait + Threads + Sync>(
-    rt: &R,
-    table: &LockTable<'_, R>,
-    things: &[Thing<'_, '_, R>],
-) -> usize {
-    let (one, other) = thread::join(
-        rt,
-        || goes_through(table, things),
-        || goes_through(table, things),
-    );
-    one.wrapping_add(other)
-}
-
-/// Whether of the four closures at each thing two fail, one ends well and one is left out.
-fn all_go_through<R: Wait + Threads + Sync>(
-    rt: &R,
-    table: &LockTable<'_, R>,
-    things: &[Thing<'_, '_, R>],
-) -> bool {
-    let (one, other) = thread::join(
-        rt,
-        || two_go_through(rt, table, things),
-        || two_go_through(rt, table, things),
-    );
-    one.wrapping_add(other) == 2 * THINGS
 }
 
 /// Things of which no closure has run.
@@ -117,19 +94,28 @@ fn are_over<R>(things: &[Thing<'_, '_, R>], runs: u64) -> bool {
     true
 }
 
-/// Four threads that call, or that force their calls.
-#[derive(Clone, Copy)]
-enum Crowd {
-    Calls,
-    Forces,
+/// How many of the calls of four threads end well, and whether so many closures have run at each thing.
+fn four<R: Wait + Threads + Sync>(
+    rt: &R,
+    alloc: Global,
+    table: &LockTable<'_, R>,
+    crowd: Crowd,
+    runs: u64,
+) -> Result<(usize, bool), Fail> {
+    let things = new_things(alloc, table)?;
+    let mut well = 0usize;
+    let part = |_number| takes_part(table, &things, crowd);
+    for count in thread::map_indices(rt, alloc, 4, &part)?.iter() {
+        well = well.wrapping_add(*count);
+    }
+    Ok((well, are_over(&things, runs)))
 }
 
 impl<R: Wait + Threads + Sync> Trial<R> for Crowd {
     fn goes(self, rt: &R, alloc: Global, table: &LockTable<'_, R>) -> Result<bool, Fail> {
-        let things = new_things(alloc, table)?;
         match self {
-            Crowd::Calls => Ok(all_come(rt, table, &things) & are_over(&things, 1)),
-            Crowd::Forces => Ok(all_go_through(rt, table, &things) & are_over(&things, 3)),
+            Crowd::Calls => Ok(four(rt, alloc, table, self, 1)? == (4 * THINGS, true)),
+            Crowd::Forces => Ok(four(rt, alloc, table, self, 3)? == (2 * THINGS, true)),
         }
     }
 }

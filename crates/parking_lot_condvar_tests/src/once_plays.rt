@@ -1,6 +1,6 @@
 //! Plays at a once.
 
-use crate::once_stage::{Answer, End, Ended, Line, Meanwhile, Play, Ran, Step, play, play_each};
+use crate::once_stage::{Answer, End, Ended, Line, Made, Meanwhile, Play, Ran, Step, play_each};
 use parking_lot_mutex::once::OnceState::{Done, InProgress, New, Poisoned};
 use std::test::Fail;
 
@@ -71,11 +71,11 @@ const COMPLETED: &[Line] = &[(CALL_THAT_FAILS, LEFT_OUT), IS_DONE];
 const SEEN: &[Line] = &[(Step::Call(End::Well, Meanwhile::Shows(InProgress, 4)), RUN)];
 
 const OF_ONE: &[Play] = &[
-    play!("once", New, 7, ONCE, &[]),
-    play!("poisoned", New, 7, POISONED, &[]),
-    play!("forced", ByDefault, 7, FORCED, &[]),
-    play!("completed", Completed, 7, COMPLETED, &[]),
-    play!("seen", New, 7, SEEN, &[]),
+    ("once", Made::New, 7, &[ONCE]),
+    ("poisoned", Made::New, 7, &[POISONED]),
+    ("forced", Made::ByDefault, 7, &[FORCED]),
+    ("completed", Made::Completed, 7, &[COMPLETED]),
+    ("seen", Made::New, 7, &[SEEN]),
 ];
 
 #[test]
@@ -86,7 +86,7 @@ fn one_thread_calls(rt: HostRuntime) -> Result<(), Fail> {
 /// Runs a closure until another thread sleeps beside it.
 const RUNS_WELL: &[Line] = &[(Step::Force(End::Well, Meanwhile::Comes(12)), RUN)];
 
-const RUNS_AND_FAILS: &[Line] = &[(
+const RUNS_BADLY: &[Line] = &[(
     Step::Force(End::Fails, Meanwhile::Comes(12)),
     RUN_AND_FAILED,
 )];
@@ -104,11 +104,11 @@ const FORCES_BESIDE: &[Line] = &[RUNNING, (FORCE, LEFT_OUT), IS_DONE];
 const FORCES_BEHIND: &[Line] = &[RUNNING, (FORCE, RUN_AGAIN), IS_DONE];
 
 const OF_TWO: &[Play] = &[
-    play!("waits", New, 7, RUNS_WELL, WAITS),
-    play!("of another lot", New, 8, RUNS_WELL, WAITS),
-    play!("refused", New, 7, RUNS_AND_FAILS, IS_REFUSED),
-    play!("forces beside", New, 7, RUNS_WELL, FORCES_BESIDE),
-    play!("forces behind", New, 7, RUNS_AND_FAILS, FORCES_BEHIND),
+    ("waits", Made::New, 7, &[RUNS_WELL, WAITS]),
+    ("of another lot", Made::New, 8, &[RUNS_WELL, WAITS]),
+    ("refused", Made::New, 7, &[RUNS_BADLY, IS_REFUSED]),
+    ("forces beside", Made::New, 7, &[RUNS_WELL, FORCES_BESIDE]),
+    ("forces behind", Made::New, 7, &[RUNS_BADLY, FORCES_BEHIND]),
 ];
 
 #[test]
@@ -125,13 +125,13 @@ const RUNS_BEHIND: &[Line] = &[
     (Step::Call(End::Well, Meanwhile::IsSilent(12)), RUN),
 ];
 
-const FAILS_BEHIND: &[Line] = &[
-    SLEEPING,
-    (
-        Step::Call(End::Fails, Meanwhile::IsSilent(12)),
-        RUN_AND_FAILED,
-    ),
-];
+/// Runs a closure that fails, and finds that nobody is awake before its end.
+const FAILS_SILENTLY: Line = (
+    Step::Call(End::Fails, Meanwhile::IsSilent(12)),
+    RUN_AND_FAILED,
+);
+
+const FAILS_BEHIND: &[Line] = &[SLEEPING, FAILS_SILENTLY];
 
 /// It waits, and says that it is awake.
 const AWAITS: &[Line] = &[
@@ -147,27 +147,24 @@ const AWAITS_IN_VAIN: &[Line] = &[
 ];
 
 /// A closure that fails leaves one that waits whatever comes asleep, until another one ends well.
-const FAILS_AND_MENDS: &[Line] = &[
+const MENDS: &[Line] = &[
     SLEEPING,
-    (
-        Step::Call(End::Fails, Meanwhile::IsSilent(12)),
-        RUN_AND_FAILED,
-    ),
+    FAILS_SILENTLY,
     (Step::Comes(10), Answer::Yes),
     (Step::Said, Answer::Number(0)),
     (FORCE, RUN_AGAIN),
 ];
 
-const AWAITS_WHATEVER_COMES: &[Line] = &[
+const AWAITS_ANY: &[Line] = &[
     (Step::WaitForce, Answer::Done),
     (Step::Says(1), Answer::Done),
     IS_DONE,
 ];
 
 const OF_WAITS: &[Play] = &[
-    play!("awaits", New, 7, RUNS_BEHIND, AWAITS),
-    play!("in vain", New, 7, FAILS_BEHIND, AWAITS_IN_VAIN),
-    play!("mended", New, 7, FAILS_AND_MENDS, AWAITS_WHATEVER_COMES),
+    ("awaits", Made::New, 7, &[RUNS_BEHIND, AWAITS]),
+    ("in vain", Made::New, 7, &[FAILS_BEHIND, AWAITS_IN_VAIN]),
+    ("mended", Made::New, 7, &[MENDS, AWAITS_ANY]),
 ];
 
 #[test]

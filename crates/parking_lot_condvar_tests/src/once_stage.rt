@@ -1,7 +1,7 @@
 //! Calls of a once as data: what a thread asks for stands beside what it is to be answered.
 
-use crate::lots::two_lots;
-use crate::words::{has_come, judge};
+use crate::lots::{Lots, two_lots};
+use crate::words::{has_come, judge, nth};
 use lock_api::TableFull;
 use parking_lot_core::{ParkingLot, ThreadData};
 use parking_lot_driver::LockTable;
@@ -127,16 +127,9 @@ impl<'s, 't, 'l, R: Clock> Scene<'s, 't, 'l, R> {
 fn how_it_ended(answer: Result<(), OnceFault<u8>>) -> Ended {
     match answer {
         Ok(()) => Ended::Well,
-        Err(fault) => how_it_failed(fault),
-    }
-}
-
-/// How one has ended that wasn't well.
-fn how_it_failed(fault: OnceFault<u8>) -> Ended {
-    match fault {
-        OnceFault::Failed(code) if code == 5 => Ended::Failed,
-        OnceFault::Failed(_) => Ended::Odd,
-        OnceFault::Poisoned => Ended::Poisoned,
+        Err(OnceFault::Failed(5)) => Ended::Failed,
+        Err(OnceFault::Failed(_)) => Ended::Odd,
+        Err(OnceFault::Poisoned) => Ended::Poisoned,
     }
 }
 
@@ -250,56 +243,18 @@ fn follow_together<R: Wait + Threads + Clock + Sync>(
     own: &ParkingLot<R>,
     others: &ParkingLot<R>,
     scene: &Scene<'_, '_, '_, R>,
-    lines: [&[Line]; 2],
+    lines: &[&[Line]],
 ) -> [Option<usize>; 2] {
-    let [first, second] = lines;
     let (one, other) = thread::join(
         rt,
-        || follow(rt, own, scene, first),
-        || follow(rt, others, scene, second),
+        || follow(rt, own, scene, nth(lines, 0)),
+        || follow(rt, others, scene, nth(lines, 1)),
     );
     [one, other]
 }
 
-/// Has them follow their lines over a scene of their own.
-fn played<'s, 't, 'l, R: Wait + Threads + Clock + Sync>(
-    rt: &R,
-    own: &ParkingLot<R>,
-    others: &ParkingLot<R>,
-    once: &'s Once<'t, 'l, R>,
-    table: &'s LockTable<'l, R>,
-    lines: [&[Line]; 2],
-) -> [Option<usize>; 2] {
-    let scene = Scene {
-        once,
-        table,
-        said: AtomicU64::new(0),
-    };
-    follow_together(rt, own, others, &scene, lines)
-}
-
-/// A play: how its once is made, the number of the second thread's lot, and what each thread does.
-#[derive(Clone, Copy)]
-pub struct Play {
-    pub name: &'static str,
-    pub made: Made,
-    pub number: u64,
-    pub lines: [&'static [Line]; 2],
-}
-
-/// A play of two threads, the second as a participant of a lot of that number.
-macro_rules! play {
-    ($name:expr, $made:ident, $number:expr, $first:expr, $second:expr) => {
-        crate::once_stage::Play {
-            name: $name,
-            made: crate::once_stage::Made::$made,
-            number: $number,
-            lines: [$first, $second],
-        }
-    };
-}
-
-pub(crate) use play;
+/// How the once is made, the number of the second thread's lot, and what each thread does.
+pub type Play = (&'static str, Made, u64, &'static [&'static [Line]]);
 
 /// A once on a new table.
 fn made<'t, 'l, R>(table: &'t LockTable<'l, R>, made: Made) -> Result<Once<'t, 'l, R>, TableFull> {
@@ -314,39 +269,29 @@ fn made<'t, 'l, R>(table: &'t LockTable<'l, R>, made: Made) -> Result<Once<'t, '
 fn on_lots<R: Wait + Threads + Clock + Sync>(
     rt: &R,
     alloc: Global,
-    own: &ParkingLot<R>,
-    others: &ParkingLot<R>,
+    lots: &Lots<R>,
     play: &Play,
 ) -> Result<[Option<usize>; 2], Fail> {
-    let table = LockTable::new(alloc, own, 1)?;
-    let once = made(&table, play.made)?;
-    Ok(played(rt, own, others, &once, &table, play.lines))
-}
-
-/// The same on new lots.
-fn staged<R: Wait + Threads + Clock + Sync + Copy + Drop>(
-    rt: R,
-    alloc: Global,
-    play: &Play,
-) -> Result<[Option<usize>; 2], Fail> {
-    let lots = two_lots(rt, alloc)?;
-    let others = if play.number == 7 {
-        &lots.one
-    } else {
-        &lots.other
+    let (_name, how, number, lines) = *play;
+    let table = LockTable::new(alloc, &lots.one, 1)?;
+    let once = made(&table, how)?;
+    let scene = Scene {
+        once: &once,
+        table: &table,
+        said: AtomicU64::new(0),
     };
-    on_lots(&rt, alloc, &lots.one, others, play)
+    Ok(follow_together(rt, &lots.one, lots.of(number), &scene, lines))
 }
 
-/// Plays each at a new once.
+/// Plays each on new lots, at a new once.
 pub fn play_each<R: Wait + Threads + Clock + Abort + Sync + Copy + Drop>(
     rt: R,
     alloc: Global,
     plays: &[Play],
 ) -> Result<(), Fail> {
     for play in plays {
-        let verdicts = staged(rt, alloc, play)?;
-        judge(&rt, play.name, &verdicts);
+        let verdicts = on_lots(&rt, alloc, &two_lots(rt, alloc)?, play)?;
+        judge(&rt, play.0, &verdicts, true);
     }
     Ok(())
 }

@@ -1,7 +1,7 @@
 //! Plays at a condition variable.
 
 use crate::stage::{
-    Answer, Condition, Counter, Form, Line, Long, Play, Step, When, Which, play, play_each,
+    Answer, Condition, Counter, Form, Line, Long, Play, Step, When, Which, play_each,
 };
 use std::test::Fail;
 
@@ -153,11 +153,11 @@ const OF_ANOTHER_LOT: &[Line] = &[
 ];
 
 const OF_ONE: &[Play] = &[
-    play!("run out", 7, RUN_OUT, &[], &[]),
-    play!("end at once", 7, END_AT_ONCE, &[], &[]),
-    play!("ask once more", 7, ASK_ONCE_MORE, &[], &[]),
-    play!("nobody", 7, NOBODY, &[], &[]),
-    play!("of another lot", 8, &[], &[], OF_ANOTHER_LOT),
+    ("run out", 7, &[RUN_OUT]),
+    ("end at once", 7, &[END_AT_ONCE]),
+    ("ask once more", 7, &[ASK_ONCE_MORE]),
+    ("nobody", 7, &[NOBODY]),
+    ("of another lot", 8, &[&[], &[], OF_ANOTHER_LOT]),
 ];
 
 #[test]
@@ -165,74 +165,31 @@ fn one_thread_waits(rt: HostRuntime) -> Result<(), Fail> {
     play_each(rt, rt.alloc(), OF_ONE)
 }
 
-/// Waits in each form that may run out, and is notified in time. It finds the number of its turn.
-const IN_TIME: &[Line] = &[
-    LOCK,
-    ABOUT,
-    woken!(Form::Until(When::Later)),
-    get!(1),
-    UNLOCK,
-    LOCK,
-    ABOUT,
-    woken!(Form::For(Long::Long)),
-    get!(2),
-    UNLOCK,
-    LOCK,
-    ABOUT,
-    woken!(Form::For(Long::Unlimited)),
-    get!(3),
-    UNLOCK,
-    LOCK,
-    ABOUT,
-    woken!(Form::WhileUntil(When::Later, Condition::Unchanged)),
-    get!(4),
-    UNLOCK,
-    LOCK,
-    ABOUT,
-    woken!(Form::WhileFor(Long::Long, Condition::Unchanged)),
-    get!(5),
-    UNLOCK,
-    LOCK,
-    ABOUT,
-    woken!(Form::WhileFor(Long::Unlimited, Condition::Unchanged)),
-    get!(6),
-    UNLOCK,
-];
+/// Waits so in turn, each time with the mutex taken anew, and finds the number of its turn.
+macro_rules! waits_in_turn {
+    ($($form:expr => $turn:expr),+) => {
+        &[$(LOCK, ABOUT, woken!($form), get!($turn), UNLOCK),+]
+    };
+}
+
+/// Waits in each form that may run out, and is notified in time.
+const IN_TIME: &[Line] = waits_in_turn!(
+    Form::Until(When::Later) => 1,
+    Form::For(Long::Long) => 2,
+    Form::For(Long::Unlimited) => 3,
+    Form::WhileUntil(When::Later, Condition::Unchanged) => 4,
+    Form::WhileFor(Long::Long, Condition::Unchanged) => 5,
+    Form::WhileFor(Long::Unlimited, Condition::Unchanged) => 6
+);
 
 /// Notifies one for each turn, once it waits.
-const NOTIFIES_EACH: &[Line] = &[
-    are_about!(1),
-    LOCK,
-    put!(1),
-    UNLOCK,
-    NOTIFY_ONE,
-    are_about!(2),
-    LOCK,
-    put!(2),
-    UNLOCK,
-    NOTIFY_ONE,
-    are_about!(3),
-    LOCK,
-    put!(3),
-    UNLOCK,
-    NOTIFY_ONE,
-    are_about!(4),
-    LOCK,
-    put!(4),
-    UNLOCK,
-    NOTIFY_ONE,
-    are_about!(5),
-    LOCK,
-    put!(5),
-    UNLOCK,
-    NOTIFY_ONE,
-    are_about!(6),
-    LOCK,
-    put!(6),
-    UNLOCK,
-    NOTIFY_ONE,
-    UNLOCKED,
-];
+macro_rules! notifies_in_turn {
+    ($($turn:expr),+) => {
+        &[$(are_about!($turn), LOCK, put!($turn), UNLOCK, NOTIFY_ONE),+, UNLOCKED]
+    };
+}
+
+const NOTIFIES_EACH: &[Line] = notifies_in_turn!(1, 2, 3, 4, 5, 6);
 
 /// Waits with the first mutex, and once it was notified with the second.
 const WITH_BOTH: &[Line] = &[
@@ -277,9 +234,9 @@ const NOTIFIES_TWO: &[Line] = &[
 ];
 
 const OF_NOTIFIED: &[Play] = &[
-    play!("in time", 7, IN_TIME, NOTIFIES_EACH, &[]),
-    play!("two mutexes", 7, WITH_BOTH, NOTIFIES_BOTH, &[]),
-    play!("all of two", 7, FINDS_2, FINDS_2, NOTIFIES_TWO),
+    ("in time", 7, &[IN_TIME, NOTIFIES_EACH]),
+    ("two mutexes", 7, &[WITH_BOTH, NOTIFIES_BOTH]),
+    ("all of two", 7, &[FINDS_2, FINDS_2, NOTIFIES_TWO]),
 ];
 
 #[test]
@@ -324,12 +281,10 @@ const TRIES_A_STRANGE_ONE: &[Line] = &[
     NOTIFY_ONE,
 ];
 
-const OF_REFUSED: &[Play] = &[play!(
+const OF_REFUSED: &[Play] = &[(
     "a second mutex",
     8,
-    WAITS,
-    TRIES_THE_SECOND,
-    TRIES_A_STRANGE_ONE
+    &[WAITS, TRIES_THE_SECOND, TRIES_A_STRANGE_ONE],
 )];
 
 #[test]
@@ -365,8 +320,8 @@ const NOTIFIES_FREELY: &[Line] = &[
 ];
 
 const OF_MOVED: &[Play] = &[
-    play!("moved", 7, WAITS, WAITS, MOVES_TWO),
-    play!("all at a free mutex", 7, WAITS, WAITS, NOTIFIES_FREELY),
+    ("moved", 7, &[WAITS, WAITS, MOVES_TWO]),
+    ("all at a free mutex", 7, &[WAITS, WAITS, NOTIFIES_FREELY]),
 ];
 
 #[test]

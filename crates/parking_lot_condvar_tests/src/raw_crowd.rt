@@ -144,21 +144,17 @@ fn goes_on<'t, 'l, R: Wait + Clock>(shared: &Shared<'t, 'l, R>) -> u64 {
     inside
 }
 
-/// How often two threads were inside.
-fn two<R: Wait + Threads + Clock + Sync>(rt: &R, shared: &Shared<'_, '_, R>) -> u64 {
-    let (one, other) = thread::join(rt, || goes_on(shared), || goes_on(shared));
-    one.wrapping_add(other)
-}
-
 /// Four threads that are inside one at a time, and often enough.
 #[derive(Clone, Copy)]
 struct Crowd;
 
 impl<R: Wait + Threads + Clock + Sync> Trial<R> for Crowd {
-    fn goes(self, rt: &R, _alloc: Global, table: &LockTable<'_, R>) -> Result<bool, Fail> {
+    fn goes(self, rt: &R, alloc: Global, table: &LockTable<'_, R>) -> Result<bool, Fail> {
         let shared = Shared::on(table)?;
-        let (one, other) = thread::join(rt, || two(rt, &shared), || two(rt, &shared));
-        let inside = one.wrapping_add(other);
+        let mut inside = 0u64;
+        for count in thread::map_indices(rt, alloc, 4, &|_number| goes_on(&shared))?.iter() {
+            inside = inside.wrapping_add(*count);
+        }
         Ok((shared.sum.load(Ordering::SeqCst) == inside) & (inside >= 20_000))
     }
 }

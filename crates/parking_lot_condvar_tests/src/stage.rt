@@ -1,12 +1,12 @@
 //! Calls of a condition variable as data: what a thread asks for stands beside what it is to be answered.
 
 use crate::lots::{Lots, Tables, are_free, two_lots, two_tables};
-use crate::words::{are_counted, has_come, judge};
+use crate::words::{are_counted, has_come, judge, nth};
 use lock_api::{Condvar, Mutex, MutexGuard, TableFull, WaitFault, WaitTimeoutResult};
 use parking_lot_core::{ParkingLot, ThreadData};
 use parking_lot_mutex::condvar::RawCondvar;
 use parking_lot_mutex::{LockTable, RawMutex};
-use std::alloc::Global;
+use std::alloc::{AllocError, Global};
 use std::process::Abort;
 use std::sync::Wait;
 use std::sync::atomic::{AtomicU64, Ordering};
@@ -182,33 +182,21 @@ fn goes_on(condition: Condition, before: u64, number: &mut u64) -> bool {
     }
 }
 
-/// What a fault is.
-fn refused(fault: WaitFault) -> Answer {
-    match fault {
-        WaitFault::WrongMutex => Answer::WrongMutex,
-        WaitFault::WrongLot => Answer::WrongLot,
-    }
-}
-
 /// How a wait without a limit has ended.
 fn ended(waited: Result<(), WaitFault>) -> Answer {
     match waited {
         Ok(()) => Answer::Woken,
-        Err(fault) => refused(fault),
+        Err(WaitFault::WrongMutex) => Answer::WrongMutex,
+        Err(WaitFault::WrongLot) => Answer::WrongLot,
     }
 }
 
 /// How a wait that may run out has ended.
 fn ended_in_time(waited: Result<WaitTimeoutResult, WaitFault>) -> Answer {
     match waited {
-        Ok(result) => {
-            if result.timed_out() {
-                Answer::TimedOut
-            } else {
-                Answer::Woken
-            }
-        }
-        Err(fault) => refused(fault),
+        Ok(result) if result.timed_out() => Answer::TimedOut,
+        Ok(_) => Answer::Woken,
+        Err(fault) => ended(Err(fault)),
     }
 }
 
@@ -337,25 +325,21 @@ fn follow<R: Wait + Clock>(
     None
 }
 
-/// Has three threads follow their lines beside each other: of each the first line that is answered otherwise.
+/// The first line of each thread that is answered otherwise.
+type Verdicts = Vec<Option<usize>>;
+
+/// Has three threads follow their lines beside each other, the third as a participant of a lot of that number.
 fn follow_together<R: Wait + Threads + Clock + Sync>(
     rt: &R,
-    own: &ParkingLot<R>,
-    others: &ParkingLot<R>,
+    alloc: Global,
+    lots: &Lots<R>,
+    number: u64,
     scene: &Scene<'_, '_, R>,
-    lines: [&[Line]; 3],
-) -> [Option<usize>; 3] {
-    let [first, second, third] = lines;
-    let (one, (two, three)) = thread::join(
-        rt,
-        || follow(rt, own, scene, first),
-        || thread::join(
-            rt,
-            || follow(rt, own, scene, second),
-            || follow(rt, others, scene, third),
-        ),
-    );
-    [one, two, three]
+    lines: &[&[Line]],
+) -> Result<Verdicts, AllocError> {
+    let lot_of = |thread| lots.of(if thread == 2 { number } else { 7 });
+    let follows = |thread| follow(rt, lot_of(thread), scene, nth(lines, thread));
+    thread::map_indices(rt, alloc, 3, &follows)
 }
 
 /// Mutexes of 0 on new tables.
@@ -384,44 +368,20 @@ fn scene_on<'t, 'l, R: Wait + Clock>(
     })
 }
 
-/// The first line of each thread that is answered otherwise.
-type Verdicts = [Option<usize>; 3];
-
-/// A play: the number of the third thread's lot, and what each thread does.
-#[derive(Clone, Copy)]
-pub struct Play {
-    pub name: &'static str,
-    pub number: u64,
-    pub lines: [&'static [Line]; 3],
-}
-
-/// A play of three threads, the third as a participant of a lot of that number.
-macro_rules! play {
-    ($name:expr, $number:expr, $first:expr, $second:expr, $third:expr) => {
-        crate::stage::Play {
-            name: $name,
-            number: $number,
-            lines: [$first, $second, $third],
-        }
-    };
-}
-
-pub(crate) use play;
+/// The number of the third thread's lot, and what each thread does; nothing, where no more is said.
+pub type Play = (&'static str, u64, &'static [&'static [Line]]);
 
 /// Has the threads follow their lines at a new condition variable.
 fn on_tables<R: Wait + Threads + Clock + Sync>(
     rt: &R,
+    alloc: Global,
     lots: &Lots<R>,
     tables: &Tables<'_, R>,
     play: &Play,
 ) -> Result<Verdicts, Fail> {
+    let (_name, number, lines) = *play;
     let scene = scene_on(rt, tables)?;
-    let others = if play.number == 7 {
-        &lots.one
-    } else {
-        &lots.other
-    };
-    Ok(follow_together(rt, &lots.one, others, &scene, play.lines))
+    Ok(follow_together(rt, alloc, lots, number, &scene, lines)?)
 }
 
 /// The same on new tables, and whether all words are 0 in the end.
@@ -432,34 +392,22 @@ fn on_lots<R: Wait + Threads + Clock + Sync>(
     play: &Play,
 ) -> Result<(Verdicts, bool), Fail> {
     let tables = two_tables(alloc, lots)?;
-    let verdicts = on_tables(rt, lots, &tables, play)?;
+    let verdicts = on_tables(rt, alloc, lots, &tables, play)?;
     Ok((
         verdicts,
         are_free(&tables.one, 3) & are_free(&tables.other, 1),
     ))
 }
 
-/// The same on new lots.
-fn staged<R: Wait + Threads + Clock + Sync + Copy + Drop>(
-    rt: R,
-    alloc: Global,
-    play: &Play,
-) -> Result<(Verdicts, bool), Fail> {
-    let lots = two_lots(rt, alloc)?;
-    on_lots(&rt, alloc, &lots, play)
-}
-
-/// Plays each at a new condition variable. All words must be 0 in the end.
+/// Plays each on new lots, at a new condition variable. All words must be 0 in the end.
 pub fn play_each<R: Wait + Threads + Clock + Abort + Sync + Copy + Drop>(
     rt: R,
     alloc: Global,
     plays: &[Play],
 ) -> Result<(), Fail> {
     for play in plays {
-        let (verdicts, are_free) = staged(rt, alloc, play)?;
-        judge(&rt, play.name, &verdicts);
-        let name = play.name;
-        assert!(rt; are_free, "{name}: the words in the end");
+        let (verdicts, are_free) = on_lots(&rt, alloc, &two_lots(rt, alloc)?, play)?;
+        judge(&rt, play.0, &verdicts, are_free);
     }
     Ok(())
 }

@@ -50,34 +50,20 @@ fn are_refused<R: Wait>(table: &LockTable<'_, R>) -> bool {
     is_full & is_full_once & (Once::default(table).err() == Some(TableFull))
 }
 
-/// What is shown, and what is refused.
+/// What is shown on three rows, and then refused.
 #[derive(Clone, Copy)]
-enum Text {
-    Onces,
-    Refusals,
-    /// A condition variable has the one row.
-    FullTable,
-}
+struct Texts;
 
-impl<R: Wait> Trial<R> for Text {
+impl<R: Wait> Trial<R> for Texts {
     fn goes(self, _rt: &R, alloc: Global, table: &LockTable<'_, R>) -> Result<bool, Fail> {
-        match self {
-            Text::Onces => Ok(are_onces_shown(alloc, table)?),
-            Text::Refusals => Ok(are_refusals_shown(alloc)?),
-            Text::FullTable => Ok(is_condvar_shown(alloc, table)? & are_refused(table)),
-        }
+        let shown = are_onces_shown(alloc, table)? & is_condvar_shown(alloc, table)?;
+        Ok(shown & are_refused(table) & are_refusals_shown(alloc)?)
     }
 }
 
 #[test]
 fn texts_and_codes(rt: HostRuntime) -> Result<(), Fail> {
-    for (name, threads, rows, text) in [
-        ("onces", 4, 2, Text::Onces),
-        ("refusals", 4, 1, Text::Refusals),
-        ("a full table", 1, 1, Text::FullTable),
-    ] {
-        let (well, _are_free) = goes_on_table(rt, rt.alloc(), threads, rows, text)?;
-        assert!(rt; well, "{name}");
-    }
+    let (well, _are_free) = goes_on_table(rt, rt.alloc(), 1, 3, Texts)?;
+    assert!(rt; well);
     Ok(())
 }

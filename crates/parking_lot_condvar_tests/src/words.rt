@@ -31,11 +31,20 @@ pub fn are_counted<C: Clock>(clock: &C, counted: &AtomicU64, count: u64) -> bool
     false
 }
 
-/// Looks whether each line of each thread was answered as it must be.
-pub fn judge(rt: &impl Abort, name: &str, verdicts: &[Option<usize>]) {
+/// What a thread does.
+pub fn nth<'s, L>(lines: &'s [&'s [L]], thread: usize) -> &'s [L] {
+    match lines.get(thread) {
+        Some(lines) => lines,
+        None => &[],
+    }
+}
+
+/// Looks whether each line of each thread was answered as it must be, and all words are 0 in the end.
+pub fn judge(rt: &impl Abort, name: &str, verdicts: &[Option<usize>], are_free: bool) {
     for (thread, line) in verdicts.iter().enumerate() {
         if let Some(line) = line {
             assert!(rt; false, "{name}: thread {thread}, line {line}");
         }
     }
+    assert!(rt; are_free, "{name}: the words in the end");
 }

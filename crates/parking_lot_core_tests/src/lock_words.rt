@@ -57,23 +57,23 @@ fn rounds<R: Wait + Abort>(rt: &R, lock: &HandoffWord, inside: &AtomicU64, count
     seen
 }
 
-/// Whether a word is changed from one to another where it is the first, and back.
-fn is_changed(lock: &HandoffWord, from: u64, to: u64) -> bool {
-    let word = lock.word();
-    word.load() == from && word.change(from, to) == Ok(()) && word.change(to, from) == Ok(())
-}
-
-/// Whether a change is refused behind another one, which is undone.
-fn is_refused(lock: &HandoffWord) -> bool {
+/// Whether a free word is changed where it is as told, and refused where it isn't.
+fn is_changed(lock: &HandoffWord) -> bool {
     let word = lock.word();
     let refused = word.change(0, 2) == Ok(()) && word.change(0, 2) == Err(2);
     refused && word.change(2, 0) == Ok(())
 }
 
+/// The same of an owner's.
+fn is_owners_changed(lock: &HandoffWord) -> bool {
+    let word = lock.word();
+    word.load() == 1 && word.change(1, 3) == Ok(()) && word.change(3, 1) == Ok(())
+}
+
 /// Whether an owner finds bit 0, and leaves the word as it does.
 fn is_owned<R: Wait + Abort>(rt: &R, lock: &HandoffWord, by_hand: bool, left: u64) -> bool {
     let owner = own(rt, lock);
-    let found = is_changed(lock, 1, 3);
+    let found = is_owners_changed(lock);
     give_up(rt, lock, owner, by_hand);
     found && lock.word().load() == left
 }
@@ -81,8 +81,8 @@ fn is_owned<R: Wait + Abort>(rt: &R, lock: &HandoffWord, by_hand: bool, left: u6
 #[test]
 fn words_are_as_they_were_written(rt: HostRuntime) {
     let lock = HandoffWord::new();
-    let are_changed = is_changed(&lock, 0, 2) && is_refused(&lock);
-    assert!(rt; are_changed && is_owned(&rt, &lock, true, 1) && is_owned(&rt, &lock, false, 0));
+    let is_new = lock.word().load() == 0 && is_changed(&lock);
+    assert!(rt; is_new && is_owned(&rt, &lock, true, 1) && is_owned(&rt, &lock, false, 0));
 }
 
 /// How often each of two threads that own the lock beside each other finds the other inside.

@@ -164,22 +164,6 @@ fn takes_part<R: Wait + Clock>(
     }
 }
 
-/// All take part at one time. Answers what each answered.
-fn all_take_part<R: Wait + Threads + Clock + Sync>(
-    rt: &R,
-    alloc: Global,
-    lot: &ParkingLot<R>,
-    over: &AtomicUsize,
-    done: &AtomicUsize,
-) -> Result<Vec<bool>, AllocError> {
-    thread::map_indices(
-        rt,
-        alloc,
-        2 * PAIRS + 1,
-        &|number| takes_part(lot, number, over, done),
-    )
-}
-
 /// One thread is woken a hundred thousand times under one key, as often as it parks, and at the end nobody is left.
 fn is_none_lost<R: Wait + Threads + Clock + Sync>(rt: &R, lot: &ParkingLot<R>) -> bool {
     let keys = Keys { first: 3, count: 1 };
@@ -201,7 +185,8 @@ fn none_is_lost<R: Wait + Threads + Clock + Sync>(
 ) -> Result<bool, AllocError> {
     let over = AtomicUsize::new(0);
     let done = AtomicUsize::new(0);
-    let ended = all_take_part(rt, alloc, lot, &over, &done)?;
+    let part = |number| takes_part(lot, number, &over, &done);
+    let ended = thread::map_indices(rt, alloc, 2 * PAIRS + 1, &part)?;
     let are_right = ended.iter().all(|is_right| *is_right);
     let is_done = done.load(Ordering::SeqCst) == PAIRS * ROUNDS;
     Ok(are_right & is_done & (woken_of_all(lot) == 0))

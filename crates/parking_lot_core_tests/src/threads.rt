@@ -121,17 +121,13 @@ fn is_aborted<R: Wait>(lot: &ParkingLot<R>) -> bool {
 }
 
 /// Whether a participant's resources are those that were acquired once more than released.
-fn are_recorded(me: &mut ThreadData) -> Result<bool, LotFault> {
-    deadlock::acquire_resource(me, 9)?;
-    deadlock::acquire_resource(me, 9)?;
-    deadlock::release_resource(me, 9);
-    deadlock::release_resource(me, 4);
-    Ok(deadlock::resources(me)?.as_slice() == [9].as_slice())
-}
-
-/// The same of a new participant.
 fn records<R: Wait>(lot: &ParkingLot<R>) -> Result<bool, LotFault> {
-    are_recorded(&mut lot.thread_data()?)
+    let mut me = lot.thread_data()?;
+    deadlock::acquire_resource(&mut me, 9)?;
+    deadlock::acquire_resource(&mut me, 9)?;
+    deadlock::release_resource(&mut me, 9);
+    deadlock::release_resource(&mut me, 4);
+    Ok(deadlock::resources(&me)?.as_slice() == [9].as_slice())
 }
 
 #[test]
@@ -157,25 +153,16 @@ fn a_word_lock_is_locked_again(rt: HostRuntime) {
     assert!(rt; SpinWait::default().spin());
 }
 
-/// How a thread's park ends, and whether another found it.
-fn both<R: Wait + Threads + Clock + Sync>(
-    rt: &R,
-    lot: &ParkingLot<R>,
-    me: &mut ThreadData,
-) -> (Option<ParkResult>, bool) {
-    let over = AtomicUsize::new(0);
-    thread::join(
-        rt,
-        || sleepers::parked(lot, me, 3, DEFAULT_PARK_TOKEN, &over),
-        || sleepers::unparked(lot, 3, 42),
-    )
-}
-
 /// Whether a thread's park ends by another's unpark.
 fn is_unparked<R: Wait + Threads + Clock + Sync>(rt: &R, lot: &ParkingLot<R>) -> Option<bool> {
     let mut me = lot.thread_data().ok()?;
-    let told = Some(ParkResult::Unparked(UnparkToken(42)));
-    Some(both(rt, lot, &mut me) == (told, true))
+    let over = AtomicUsize::new(0);
+    let (ended, woke) = thread::join(
+        rt,
+        || sleepers::parked(lot, &mut me, 3, DEFAULT_PARK_TOKEN, &over),
+        || sleepers::unparked(lot, 3, 42),
+    );
+    Some(woke & (ended == Some(ParkResult::Unparked(UnparkToken(42)))))
 }
 
 /// What one thread tries, or two.

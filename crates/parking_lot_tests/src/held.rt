@@ -10,7 +10,7 @@ use std::sync::Wait;
 use std::time::Clock;
 
 /// Does with a guard that only reads what keeps it.
-fn look_by<W: Lender<Part = u64> + Drop, H: FairHold + Access<Inner = W>>(
+pub fn look_by<W: Lender<Part = u64> + Drop, H: FairHold + Access<Inner = W>>(
     guard: &mut Guard<W, H>,
     deed: Deed,
     party: &mut H::Party,
@@ -28,32 +28,6 @@ where
     }
 }
 
-/// Does it with a guard that only reads, and gives what is left of it.
-pub fn read_by<W: Lender<Part = u64> + Drop, H: FairHold + Access<Inner = W>>(
-    guard: Guard<W, H>,
-    deed: Deed,
-    party: &mut H::Party,
-) -> (Option<Guard<W, H>>, Answer)
-where
-    H::Runtime: Wait,
-{
-    match deed {
-        Deed::End => {
-            drop(guard);
-            (None, Answer::Done)
-        }
-        Deed::EndFairly => {
-            Guard::unlock_fair(guard);
-            (None, Answer::Done)
-        }
-        _ => {
-            let mut guard = guard;
-            let answer = look_by(&mut guard, deed, party);
-            (Some(guard), answer)
-        }
-    }
-}
-
 /// Writes a number by a guard.
 fn put<W: LenderMut<Part = u64> + Drop, H: Hold>(guard: &mut Guard<W, H>, number: u64) -> Answer
 where
@@ -63,28 +37,40 @@ where
     Answer::Done
 }
 
-/// Does it with a guard that writes, and gives what is left of it.
+/// Does with a guard that writes what keeps it.
 pub fn write_by<W: LenderMut<Part = u64> + Drop, H: FairHold + Access<Inner = W>>(
-    guard: Guard<W, H>,
+    guard: &mut Guard<W, H>,
     deed: Deed,
     party: &mut H::Party,
-) -> (Option<Guard<W, H>>, Answer)
+) -> Answer
 where
     H::Runtime: Wait,
 {
     match deed {
-        Deed::Put(number) => {
-            let mut guard = guard;
-            let answer = put(&mut guard, number);
-            (Some(guard), answer)
-        }
+        Deed::Put(number) => put(guard, number),
         Deed::AddTen => {
-            let mut guard = guard;
             let number = guard.wrapping_add(10);
-            let answer = put(&mut guard, number);
-            (Some(guard), answer)
+            put(guard, number)
         }
-        _ => read_by(guard, deed, party),
+        _ => look_by(guard, deed, party),
+    }
+}
+
+/// Ends the hold of a hand, fairly or not.
+pub fn end_by<W: Drop, H: FairHold>(hand: &mut Option<Guard<W, H>>, fairly: bool) -> Answer
+where
+    H::Runtime: Wait,
+{
+    match hand.take() {
+        Some(guard) => {
+            if fairly {
+                Guard::unlock_fair(guard);
+            } else {
+                drop(guard);
+            }
+            Answer::Done
+        }
+        None => Answer::Unknown,
     }
 }
 

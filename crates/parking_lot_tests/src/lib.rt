@@ -11,6 +11,8 @@ mod deadlines;
 #[cfg(test)]
 mod held;
 #[cfg(test)]
+mod kinds;
+#[cfg(test)]
 mod mutex_plays;
 #[cfg(test)]
 mod mutex_steps;

@@ -83,9 +83,9 @@ const IN_TIME: &[Line] = &[
 ];
 
 const OF_ONE: &[Play] = &[
-    ("alone", PLAIN, [ALONE, &[], &[], &[]]),
-    ("plain in time", PLAIN, [IN_TIME, &[], &[], &[]]),
-    ("fair in time", FAIR, [IN_TIME, &[], &[], &[]]),
+    ("alone", PLAIN, &[ALONE]),
+    ("plain in time", PLAIN, &[IN_TIME]),
+    ("fair in time", FAIR, &[IN_TIME]),
 ];
 
 #[test]
@@ -104,14 +104,14 @@ const HANDS_OVER: &[Line] = &[LOCK, PARKED, SAY_1, END_FAIRLY, LOCK, SAID_2, END
 const BUMPS: &[Line] = &[LOCK, PARKED, SAY_1, BUMP, SAID_2, END];
 
 /// The same, whoever has the mutex first.
-const UNLOCKS_FOR_ANYBODY: &[Line] = &[LOCK, PARKED, SAY_1, END, LOCK, END];
+const UNLOCKS_ONLY: &[Line] = &[LOCK, PARKED, SAY_1, END, LOCK, END];
 
 const OF_TWO: &[Play] = &[
-    ("fair, unlocked", [FAIR, UNLOCKS, SECOND, &[]]),
-    ("fair, handed over", [FAIR, HANDS_OVER, SECOND, &[]]),
-    ("fair, bumped", [FAIR, BUMPS, SECOND, &[]]),
-    ("plain, handed over", [PLAIN, HANDS_OVER, SECOND, &[]]),
-    ("plain, bumped", [PLAIN, BUMPS, SECOND, &[]]),
+    ("fair, unlocked", FAIR, &[UNLOCKS, SECOND]),
+    ("fair, handed over", FAIR, &[HANDS_OVER, SECOND]),
+    ("fair, bumped", FAIR, &[BUMPS, SECOND]),
+    ("plain, handed over", PLAIN, &[HANDS_OVER, SECOND]),
+    ("plain, bumped", PLAIN, &[BUMPS, SECOND]),
 ];
 
 #[test]
@@ -134,17 +134,9 @@ const OF_ANOTHER_LOT: Setting = Setting {
 };
 
 const OF_A_SLEEPER: &[Play] = &[
-    ("a sleeper", PLAIN, [UNLOCKS_FOR_ANYBODY, SECOND, &[], &[]]),
-    (
-        "of another lot",
-        OF_ANOTHER_LOT,
-        [UNLOCKS_FOR_ANYBODY, SECOND, &[], &[]],
-    ),
-    (
-        "fair by the lot",
-        FAIR_BY_THE_LOT,
-        [UNLOCKS, SECOND, &[], &[]],
-    ),
+    ("a sleeper", PLAIN, &[UNLOCKS_ONLY, SECOND]),
+    ("of another lot", OF_ANOTHER_LOT, &[UNLOCKS_ONLY, SECOND]),
+    ("fair by the lot", FAIR_BY_THE_LOT, &[UNLOCKS, SECOND]),
 ];
 
 #[test]
@@ -163,21 +155,17 @@ const GET_11: Line = (Step::Do(Deed::Get), Answer::Number(11));
 const ADDS_BEHIND: &[Line] = &[LOCKED, LOCK, ADD_10, HEAR_1, END];
 
 /// What the guard lends in the end.
-const LEFT_11: &[Line] = &[LOCK, GET_11, END];
+const IS_11: &[Line] = &[LOCK, GET_11, END];
 
 /// It hands the mutex over, which is never free in between.
-const HANDS_OVER_TO_ONE: &[Line] = &[LOCK, PUT_1, PARKED, END_FAIRLY, REFUSED, SAY_1];
+const HANDS_ON: &[Line] = &[LOCK, PUT_1, PARKED, END_FAIRLY, REFUSED, SAY_1];
 
 /// It lets the other go first.
 const GOES_SECOND: &[Line] = &[LOCK, PUT_1, PARKED, SAY_1, BUMP, GET_11, END];
 
 const OF_GUARDS: &[Play] = &[
-    (
-        "a fair end",
-        PLAIN,
-        [HANDS_OVER_TO_ONE, ADDS_BEHIND, &[], LEFT_11],
-    ),
-    ("a bump", PLAIN, [GOES_SECOND, ADDS_BEHIND, &[], LEFT_11]),
+    ("a fair end", PLAIN, &[HANDS_ON, ADDS_BEHIND, &[], IS_11]),
+    ("a bump", PLAIN, &[GOES_SECOND, ADDS_BEHIND, &[], IS_11]),
 ];
 
 #[test]
@@ -194,7 +182,7 @@ const WRITES: &[Line] = &[
     (Step::Aside(Aside::Locked), Answer::No),
 ];
 
-const OF_A_FAIR_GUARD: &[Play] = &[("writes", FAIR, [WRITES, &[], &[], &[]])];
+const OF_A_FAIR_GUARD: &[Play] = &[("writes", FAIR, &[WRITES])];
 
 #[test]
 fn a_guard_of_a_fair_mutex_lends_what_was_written(rt: HostRuntime) -> Result<(), Fail> {
@@ -244,12 +232,8 @@ const NESTS_BEFORE: &[Line] = &[
 const LOCKS_BEHIND: &[Line] = &[LOCKED, LOCK, SAID_1, END];
 
 const OF_HOLDS: &[Play] = &[
-    ("nested", REENTRANT, [NESTED, &[], &[], &[]]),
-    (
-        "behind the last",
-        REENTRANT,
-        [NESTS_BEFORE, LOCKS_BEHIND, &[], &[]],
-    ),
+    ("nested", REENTRANT, &[NESTED]),
+    ("behind the last", REENTRANT, &[NESTS_BEFORE, LOCKS_BEHIND]),
 ];
 
 #[test]

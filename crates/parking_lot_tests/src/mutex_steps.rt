@@ -1,24 +1,22 @@
 //! Steps of a thread at a mutex.
 
-use crate::calls::{Answer, How, Line, Mode, NOTHING, Round, Step, Tally, Verdict, WRONG, sum};
-use crate::held::{add_under, write_by, write_under};
+use crate::calls::{
+    Answer, Deed, How, Line, Mode, NOTHING, Round, Step, Tally, Verdict, WRONG, sum,
+};
+use crate::held::{add_under, end_by, write_by, write_under};
+use crate::kinds::AnyMutex;
 use crate::scene::Scene;
 use lock_api::{Mutex, MutexGuard};
-use lock_api_raw::{RawMutexFair, RawMutexTimed};
-use std::sync::Wait;
-use std::time::{Clock, Duration, Instant};
+use parking_lot_core::ThreadData;
+use std::time::{Clock, Duration};
 
 /// What is asked for.
-fn ask<'m, M, R: Clock>(
+fn ask<'m, M: AnyMutex, R: Clock>(
     mutex: &'m Mutex<M, u64>,
     scene: &Scene<'_, '_, R>,
     how: How,
-    party: &mut M::Party,
-) -> Option<MutexGuard<'m, M, u64>>
-where
-    M: RawMutexTimed<Duration = Duration, Instant = Instant>,
-    M::Runtime: Wait,
-{
+    party: &mut ThreadData,
+) -> Option<MutexGuard<'m, M, u64>> {
     match how {
         How::Waits => Some(mutex.lock(party)),
         How::Tries => mutex.try_lock(),
@@ -29,67 +27,86 @@ where
 }
 
 /// Asks for a hold that ends at once.
-fn probe<M, R: Clock>(
+fn probe<M: AnyMutex, R: Clock>(
     mutex: &Mutex<M, u64>,
     scene: &Scene<'_, '_, R>,
     how: How,
-    party: &mut M::Party,
-) -> Answer
-where
-    M: RawMutexTimed<Duration = Duration, Instant = Instant>,
-    M::Runtime: Wait,
-{
+    party: &mut ThreadData,
+) -> Answer {
     match ask(mutex, scene, how, party) {
         Some(_guard) => scene.had(),
         None => Answer::Refused,
     }
 }
 
-/// Makes one step, with what the hand holds.
-fn make<'m, M, R: Clock>(
+/// Asks for a hold with a hand that is free.
+fn ask_with<'m, M: AnyMutex, R: Clock>(
     mutex: &'m Mutex<M, u64>,
     scene: &Scene<'_, '_, R>,
-    hand: Option<MutexGuard<'m, M, u64>>,
-    step: Step,
-    me: &mut M::Party,
-    other: &mut M::Party,
-) -> (Option<MutexGuard<'m, M, u64>>, Answer)
-where
-    M: RawMutexFair + RawMutexTimed<Duration = Duration, Instant = Instant>,
-    M::Runtime: Wait,
-{
-    match (hand, step) {
-        (None, Step::Ask(Mode::Exclusive, how)) => match ask(mutex, scene, how, me) {
-            Some(guard) => (Some(guard), Answer::Had),
-            None => (None, Answer::Refused),
-        },
-        (Some(guard), Step::Do(deed)) => write_by(guard, deed, me),
-        (hand, Step::Probe(Mode::Exclusive, how)) => (hand, probe(mutex, scene, how, other)),
-        (hand, Step::Aside(what)) => {
-            let locked = mutex.is_locked();
-            (hand, scene.look(what, locked, locked))
+    hand: &mut Option<MutexGuard<'m, M, u64>>,
+    how: How,
+    party: &mut ThreadData,
+) -> Answer {
+    if hand.is_some() {
+        return Answer::Unknown;
+    }
+    match ask(mutex, scene, how, party) {
+        Some(guard) => {
+            *hand = Some(guard);
+            Answer::Had
         }
-        (hand, _) => (hand, Answer::Unknown),
+        None => Answer::Refused,
+    }
+}
+
+/// Does it with what the hand holds.
+fn do_with<'m, M: AnyMutex>(
+    hand: &mut Option<MutexGuard<'m, M, u64>>,
+    deed: Deed,
+    party: &mut ThreadData,
+) -> Answer {
+    match deed {
+        Deed::End => end_by(hand, false),
+        Deed::EndFairly => end_by(hand, true),
+        deed => match hand {
+            Some(guard) => write_by(guard, deed, party),
+            None => Answer::Unknown,
+        },
+    }
+}
+
+/// Makes one step, with the hand.
+fn make<'m, M: AnyMutex, R: Clock>(
+    mutex: &'m Mutex<M, u64>,
+    scene: &Scene<'_, '_, R>,
+    hand: &mut Option<MutexGuard<'m, M, u64>>,
+    step: Step,
+    me: &mut ThreadData,
+    other: &mut ThreadData,
+) -> Answer {
+    match step {
+        Step::Ask(Mode::Exclusive, how) => ask_with(mutex, scene, hand, how, me),
+        Step::Do(deed) => do_with(hand, deed, me),
+        Step::Probe(Mode::Exclusive, how) => probe(mutex, scene, how, other),
+        Step::Aside(what) => {
+            let locked = mutex.is_locked();
+            scene.look(what, locked, locked)
+        }
+        _ => Answer::Unknown,
     }
 }
 
 /// Follows the lines until one is answered otherwise.
-pub fn follow<M, R: Clock>(
+pub fn follow<M: AnyMutex, R: Clock>(
     mutex: &Mutex<M, u64>,
     scene: &Scene<'_, '_, R>,
     lines: &[Line],
-    me: &mut M::Party,
-    other: &mut M::Party,
-) -> Verdict
-where
-    M: RawMutexFair + RawMutexTimed<Duration = Duration, Instant = Instant>,
-    M::Runtime: Wait,
-{
+    me: &mut ThreadData,
+    other: &mut ThreadData,
+) -> Verdict {
     let mut hand = None;
     for (at, (step, expected)) in lines.iter().enumerate() {
-        let (held, answer) = make(mutex, scene, hand, *step, me, other);
-        hand = held;
-        if answer != *expected {
+        if make(mutex, scene, &mut hand, *step, me, other) != *expected {
             return Some(at);
         }
     }
@@ -97,16 +114,12 @@ where
 }
 
 /// Makes one round.
-fn turn<M, R: Clock>(
+fn turn<M: AnyMutex, R: Clock>(
     mutex: &Mutex<M, u64>,
     scene: &Scene<'_, '_, R>,
     round: Round,
-    party: &mut M::Party,
-) -> Tally
-where
-    M: RawMutexTimed<Duration = Duration, Instant = Instant>,
-    M::Runtime: Wait,
-{
+    party: &mut ThreadData,
+) -> Tally {
     match round {
         Round::Adds(how) => add_under(ask(mutex, scene, how, party), scene, how, None),
         Round::AddsAt(how, word) => {
@@ -118,17 +131,13 @@ where
 }
 
 /// Makes each of the rounds in turn, so many times.
-pub fn take_turns<M, R: Clock>(
+pub fn take_turns<M: AnyMutex, R: Clock>(
     mutex: &Mutex<M, u64>,
     scene: &Scene<'_, '_, R>,
     rounds: &[Round],
     times: u32,
-    party: &mut M::Party,
-) -> Tally
-where
-    M: RawMutexTimed<Duration = Duration, Instant = Instant>,
-    M::Runtime: Wait,
-{
+    party: &mut ThreadData,
+) -> Tally {
     let mut all = NOTHING;
     for _time in 0..times {
         for round in rounds {

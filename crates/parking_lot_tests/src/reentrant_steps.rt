@@ -1,25 +1,20 @@
 //! Steps of a thread at a reentrant mutex.
 
-use crate::calls::{Answer, How, Line, Mode, NOTHING, ONE, Step, Tally, Verdict, WRONG, sum};
-use crate::held::read_by;
+use crate::calls::{Answer, Deed, How, Line, Mode, NOTHING, ONE, Step, Tally, Verdict, WRONG, sum};
+use crate::held::{end_by, look_by};
+use crate::kinds::{AnyMutex, Ids};
 use crate::scene::Scene;
 use lock_api::{ReadersFull, ReentrantMutex, ReentrantMutexGuard};
-use lock_api_raw::{GetThreadId, RawMutexFair, RawMutexTimed};
-use std::sync::Wait;
-use std::time::{Clock, Duration, Instant};
+use parking_lot_core::ThreadData;
+use std::time::{Clock, Duration};
 
 /// What is asked for.
-fn ask<'m, M, G, R: Clock>(
+fn ask<'m, M: AnyMutex, G: Ids, R: Clock>(
     mutex: &'m ReentrantMutex<M, G, u64>,
     scene: &Scene<'_, '_, R>,
     how: How,
-    party: &mut M::Party,
-) -> Result<Option<ReentrantMutexGuard<'m, M, G, u64>>, ReadersFull>
-where
-    M: RawMutexTimed<Duration = Duration, Instant = Instant> + Drop,
-    G: GetThreadId<Party = M::Party> + Drop,
-    M::Runtime: Wait,
-{
+    party: &mut ThreadData,
+) -> Result<Option<ReentrantMutexGuard<'m, M, G, u64>>, ReadersFull> {
     match how {
         How::Waits => match mutex.lock(party) {
             Ok(guard) => Ok(Some(guard)),
@@ -33,17 +28,12 @@ where
 }
 
 /// Asks for a hold that ends at once.
-fn probe<M, G, R: Clock>(
+fn probe<M: AnyMutex, G: Ids, R: Clock>(
     mutex: &ReentrantMutex<M, G, u64>,
     scene: &Scene<'_, '_, R>,
     how: How,
-    party: &mut M::Party,
-) -> Answer
-where
-    M: RawMutexTimed<Duration = Duration, Instant = Instant> + Drop,
-    G: GetThreadId<Party = M::Party> + Drop,
-    M::Runtime: Wait,
-{
+    party: &mut ThreadData,
+) -> Answer {
     match ask(mutex, scene, how, party) {
         Ok(Some(_guard)) => scene.had(),
         Ok(None) => Answer::Refused,
@@ -51,44 +41,64 @@ where
     }
 }
 
-/// Makes a step with a hand.
-fn make_by<'m, M, G, R: Clock>(
+/// Asks for a hold with a hand that is free.
+fn ask_with<'m, M: AnyMutex, G: Ids, R: Clock>(
     mutex: &'m ReentrantMutex<M, G, u64>,
     scene: &Scene<'_, '_, R>,
-    hand: Option<ReentrantMutexGuard<'m, M, G, u64>>,
-    step: Step,
-    me: &mut M::Party,
-) -> (Option<ReentrantMutexGuard<'m, M, G, u64>>, Answer)
-where
-    M: RawMutexFair + RawMutexTimed<Duration = Duration, Instant = Instant> + Drop,
-    G: GetThreadId<Party = M::Party> + Drop,
-    M::Runtime: Wait,
-{
-    match (hand, step) {
-        (None, Step::Ask(Mode::Exclusive, how)) => match ask(mutex, scene, how, me) {
-            Ok(Some(guard)) => (Some(guard), Answer::Had),
-            Ok(None) => (None, Answer::Refused),
-            Err(ReadersFull) => (None, Answer::Full),
-        },
-        (Some(guard), Step::Do(deed)) => read_by(guard, deed, me),
-        (hand, _) => (hand, Answer::Unknown),
+    hand: &mut Option<ReentrantMutexGuard<'m, M, G, u64>>,
+    how: How,
+    party: &mut ThreadData,
+) -> Answer {
+    if hand.is_some() {
+        return Answer::Unknown;
+    }
+    match ask(mutex, scene, how, party) {
+        Ok(Some(guard)) => {
+            *hand = Some(guard);
+            Answer::Had
+        }
+        Ok(None) => Answer::Refused,
+        Err(ReadersFull) => Answer::Full,
     }
 }
 
-/// Makes a step for which no hand is needed.
-fn look<M, G, R: Clock>(
-    mutex: &ReentrantMutex<M, G, u64>,
+/// Does it with what the hand holds.
+fn do_with<'m, M: AnyMutex, G: Ids>(
+    hand: &mut Option<ReentrantMutexGuard<'m, M, G, u64>>,
+    deed: Deed,
+    party: &mut ThreadData,
+) -> Answer {
+    match deed {
+        Deed::End => end_by(hand, false),
+        Deed::EndFairly => end_by(hand, true),
+        deed => match hand {
+            Some(guard) => look_by(guard, deed, party),
+            None => Answer::Unknown,
+        },
+    }
+}
+
+/// What both hands hold.
+#[derive(Drop)]
+struct Hands<'m, M: AnyMutex, G: Ids> {
+    first: Option<ReentrantMutexGuard<'m, M, G, u64>>,
+    second: Option<ReentrantMutexGuard<'m, M, G, u64>>,
+}
+
+/// Makes one step.
+fn make<'m, M: AnyMutex, G: Ids, R: Clock>(
+    mutex: &'m ReentrantMutex<M, G, u64>,
     scene: &Scene<'_, '_, R>,
+    hands: &mut Hands<'m, M, G>,
     step: Step,
-    me: &mut M::Party,
-    other: &mut M::Party,
-) -> Answer
-where
-    M: RawMutexTimed<Duration = Duration, Instant = Instant> + Drop,
-    G: GetThreadId<Party = M::Party> + Drop,
-    M::Runtime: Wait,
-{
+    me: &mut ThreadData,
+    other: &mut ThreadData,
+) -> Answer {
     match step {
+        Step::Ask(Mode::Exclusive, how) => ask_with(mutex, scene, &mut hands.first, how, me),
+        Step::AskToo(Mode::Exclusive, how) => ask_with(mutex, scene, &mut hands.second, how, me),
+        Step::Do(deed) => do_with(&mut hands.first, deed, me),
+        Step::DoToo(deed) => do_with(&mut hands.second, deed, me),
         Step::Probe(Mode::Exclusive, how) => probe(mutex, scene, how, other),
         Step::Nest(Mode::Exclusive, how) => probe(mutex, scene, how, me),
         Step::Aside(what) => {
@@ -100,45 +110,19 @@ where
 }
 
 /// Follows the lines until one is answered otherwise.
-pub fn follow<M, G, R: Clock>(
+pub fn follow<M: AnyMutex, G: Ids, R: Clock>(
     mutex: &ReentrantMutex<M, G, u64>,
     scene: &Scene<'_, '_, R>,
     lines: &[Line],
-    me: &mut M::Party,
-    other: &mut M::Party,
-) -> Verdict
-where
-    M: RawMutexFair + RawMutexTimed<Duration = Duration, Instant = Instant> + Drop,
-    G: GetThreadId<Party = M::Party> + Drop,
-    M::Runtime: Wait,
-{
-    let mut first = None;
-    let mut second = None;
+    me: &mut ThreadData,
+    other: &mut ThreadData,
+) -> Verdict {
+    let mut hands = Hands {
+        first: None,
+        second: None,
+    };
     for (at, (step, expected)) in lines.iter().enumerate() {
-        let answer = match *step {
-            Step::Ask(mode, how) => {
-                let (held, answer) = make_by(mutex, scene, first, Step::Ask(mode, how), me);
-                first = held;
-                answer
-            }
-            Step::Do(deed) => {
-                let (held, answer) = make_by(mutex, scene, first, Step::Do(deed), me);
-                first = held;
-                answer
-            }
-            Step::AskToo(mode, how) => {
-                let (held, answer) = make_by(mutex, scene, second, Step::Ask(mode, how), me);
-                second = held;
-                answer
-            }
-            Step::DoToo(deed) => {
-                let (held, answer) = make_by(mutex, scene, second, Step::Do(deed), me);
-                second = held;
-                answer
-            }
-            step => look(mutex, scene, step, me, other),
-        };
-        if answer != *expected {
+        if make(mutex, scene, &mut hands, *step, me, other) != *expected {
             return Some(at);
         }
     }
@@ -146,16 +130,11 @@ where
 }
 
 /// Adds 1 in two steps, the second of them under a hold that is nested in the first one's.
-fn add_nested<M, G, R: Clock>(
+fn add_nested<M: AnyMutex, G: Ids, R: Clock>(
     mutex: &ReentrantMutex<M, G, u64>,
     scene: &Scene<'_, '_, R>,
-    party: &mut M::Party,
-) -> Tally
-where
-    M: RawMutexTimed<Duration = Duration, Instant = Instant> + Drop,
-    G: GetThreadId<Party = M::Party> + Drop,
-    M::Runtime: Wait,
-{
+    party: &mut ThreadData,
+) -> Tally {
     let Ok(_outer) = mutex.lock(party) else {
         return NOTHING;
     };
@@ -171,17 +150,12 @@ where
 }
 
 /// Makes each of the rounds in turn, so many times.
-pub fn take_turns<M, G, R: Clock>(
+pub fn take_turns<M: AnyMutex, G: Ids, R: Clock>(
     mutex: &ReentrantMutex<M, G, u64>,
     scene: &Scene<'_, '_, R>,
     times: u32,
-    party: &mut M::Party,
-) -> Tally
-where
-    M: RawMutexTimed<Duration = Duration, Instant = Instant> + Drop,
-    G: GetThreadId<Party = M::Party> + Drop,
-    M::Runtime: Wait,
-{
+    party: &mut ThreadData,
+) -> Tally {
     let mut all = NOTHING;
     for _time in 0..times {
         all = sum(all, add_nested(mutex, scene, party));

@@ -292,27 +292,15 @@ const READS_OR_WRITES: &[Line] = &[
 ];
 
 const OF_ONE: &[Play] = &[
-    ("two readers", of!(2), [TWO_READERS, &[], &[], &[]]),
-    ("a writer", of!(0), [A_WRITER, &[], &[], &[]]),
-    (
-        "an upgradable owner",
-        of!(5),
-        [AN_UPGRADABLE_OWNER, &[], &[], &[]],
-    ),
-    (
-        "a refused upgrade",
-        of!(5),
-        [A_REFUSED_UPGRADE, &[], &[], &[]],
-    ),
-    (
-        "an upgrade in time",
-        of!(5),
-        [AN_UPGRADE_IN_TIME, &[], &[], &[]],
-    ),
-    ("the one reader", of!(1), [THE_ONE_READER, &[], &[], &[]]),
-    ("in time", of!(5), [IN_TIME, &[], &[], &[]]),
-    ("reads or writes", of!(5), [READS_OR_WRITES, &[], &[], &[]]),
-    ("in time, recursive", [RECURSIVE, IN_TIME, &[], &[]]),
+    ("two readers", of!(2), &[TWO_READERS]),
+    ("a writer", of!(0), &[A_WRITER]),
+    ("an upgradable owner", of!(5), &[AN_UPGRADABLE_OWNER]),
+    ("a refused upgrade", of!(5), &[A_REFUSED_UPGRADE]),
+    ("an upgrade in time", of!(5), &[AN_UPGRADE_IN_TIME]),
+    ("the one reader", of!(1), &[THE_ONE_READER]),
+    ("in time", of!(5), &[IN_TIME]),
+    ("reads or writes", of!(5), &[READS_OR_WRITES]),
+    ("in time, recursive", RECURSIVE, &[IN_TIME]),
 ];
 
 #[test]
@@ -337,18 +325,13 @@ const READS_BEHIND: &[Line] = &[
     END,
 ];
 
+/// A writer and two readers.
+const THREE: &[&[Line]] = &[WRITES_BEFORE, READS_BEHIND, READS_BEHIND];
+
 const OF_READERS: &[Play] = &[
-    ("a writer", of!(5), [READS_BEFORE, WRITES_BEHIND, &[], &[]]),
-    (
-        "readers of one",
-        of!(1),
-        [WRITES_BEFORE, READS_BEHIND, READS_BEHIND, &[]],
-    ),
-    (
-        "readers of five",
-        of!(5),
-        [WRITES_BEFORE, READS_BEHIND, READS_BEHIND, &[]],
-    ),
+    ("a writer", of!(5), &[READS_BEFORE, WRITES_BEHIND]),
+    ("readers of one", of!(1), THREE),
+    ("readers of five", of!(5), THREE),
 ];
 
 #[test]
@@ -369,7 +352,7 @@ const ADDS_AT_16: &[Line] = &[comes!(16), WRITE, ADD_10, hear!(1), END];
 
 /// What a guard does once a writer sleeps behind it: nobody else comes in before that one, or it has been there behind
 /// a bump.
-const STOPS_WRITING: &[Line] = &[
+const ENDS_AT_8: &[Line] = &[
     WRITE,
     put!(1),
     comes!(9),
@@ -379,9 +362,9 @@ const STOPS_WRITING: &[Line] = &[
     say!(1),
 ];
 
-const GIVES_WAY_AT_8: &[Line] = &[WRITE, put!(1), comes!(9), say!(1), BUMP, get!(11), END];
+const BUMPS_AT_8: &[Line] = &[WRITE, put!(1), comes!(9), say!(1), BUMP, get!(11), END];
 
-const STOPS_READING: &[Line] = &[
+const ENDS_AT_16: &[Line] = &[
     READ,
     comes!(26),
     get!(0),
@@ -391,36 +374,24 @@ const STOPS_READING: &[Line] = &[
     say!(1),
 ];
 
-const GIVES_WAY_AT_16: &[Line] = &[READ, comes!(26), get!(0), say!(1), BUMP, get!(10), END];
+const BUMPS_AT_16: &[Line] = &[READ, comes!(26), get!(0), say!(1), BUMP, get!(10), END];
 
 /// What the guard lends in the end.
-const LEFT_6: &[Line] = &[READ, get!(6), END];
+const IS_6: &[Line] = &[READ, get!(6), END];
 
-const LEFT_10: &[Line] = &[READ, get!(10), END];
+const IS_10: &[Line] = &[READ, get!(10), END];
 
-const LEFT_11: &[Line] = &[READ, get!(11), END];
+const IS_11: &[Line] = &[READ, get!(11), END];
 
 const OF_A_WRITER: &[Play] = &[
-    ("reads 0", of!(9), [READS_0, WRITES_6, &[], LEFT_6]),
+    ("reads 0", of!(9), &[READS_0, WRITES_6, &[], IS_6]),
+    ("ends at 8", of!(9), &[ENDS_AT_8, ADDS_AT_8, &[], IS_11]),
+    ("bumps at 8", of!(9), &[BUMPS_AT_8, ADDS_AT_8, &[], IS_11]),
+    ("ends at 16", of!(9), &[ENDS_AT_16, ADDS_AT_16, &[], IS_10]),
     (
-        "stops writing",
+        "bumps at 16",
         of!(9),
-        [STOPS_WRITING, ADDS_AT_8, &[], LEFT_11],
-    ),
-    (
-        "gives way as writer",
-        of!(9),
-        [GIVES_WAY_AT_8, ADDS_AT_8, &[], LEFT_11],
-    ),
-    (
-        "stops reading",
-        of!(9),
-        [STOPS_READING, ADDS_AT_16, &[], LEFT_10],
-    ),
-    (
-        "gives way as reader",
-        of!(9),
-        [GIVES_WAY_AT_16, ADDS_AT_16, &[], LEFT_10],
+        &[BUMPS_AT_16, ADDS_AT_16, &[], IS_10],
     ),
 ];
 
@@ -452,17 +423,9 @@ const READS_ON: &[Line] = &[
 ];
 
 const OF_A_READER: &[Play] = &[
-    (
-        "reads again",
-        RECURSIVE,
-        [READS_AGAIN, WRITES_BEHIND, &[], &[]],
-    ),
-    ("reads on", RECURSIVE, [READS_ON, WRITES_BEHIND, &[], &[]]),
-    (
-        "asks in vain",
-        of!(5),
-        [ASKS_IN_VAIN, WRITES_BEHIND, &[], &[]],
-    ),
+    ("reads again", RECURSIVE, &[READS_AGAIN, WRITES_BEHIND]),
+    ("reads on", RECURSIVE, &[READS_ON, WRITES_BEHIND]),
+    ("asks in vain", of!(5), &[ASKS_IN_VAIN, WRITES_BEHIND]),
 ];
 
 #[test]
@@ -485,7 +448,7 @@ const COMES_IN: &[Line] = &[comes!(26), READ, word!(32), say!(1), END];
 const OF_ONE_THAT_GIVES_UP: &[Play] = &[(
     "a writer gives up",
     of!(5),
-    [A_WRITER_GIVES_UP, COMES_IN, &[], &[]],
+    &[A_WRITER_GIVES_UP, COMES_IN],
 )];
 
 #[test]

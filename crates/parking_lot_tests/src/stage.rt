@@ -2,14 +2,10 @@
 //! rounds.
 
 use crate::calls::{Line, NOTHING, Round, Tally, Verdict, WRONG, sum};
+use crate::kinds::{AnyMutex, AnyRwLock, Ids};
 use crate::scene::Scene;
 use crate::{mutex_steps, reentrant_steps, rw_steps};
 use lock_api::{Mutex, ReentrantMutex, RwLock, TableFull};
-use lock_api_raw::{
-    GetThreadId, MakeLock, RawMutex as AnyRawMutex, RawMutexFair, RawMutexTimed,
-    RawRwLock as AnyRawRwLock, RawRwLockUpgradeDowngrade, RawRwLockUpgradeFair,
-    RawRwLockUpgradeTimed,
-};
 use parking_lot_core::{DEFAULT_UNPARK_TOKEN, ParkingLot, ThreadData, unpark_one};
 use parking_lot_mutex::{RawFairMutex, RawMutex, RawThreadId};
 use parking_lot_rwlock::{LockTable, RawRwLock};
@@ -20,7 +16,7 @@ use std::sync::atomic::AtomicU64;
 use std::test::Fail;
 use std::thread;
 use std::thread::Threads;
-use std::time::{Clock, Duration, Instant};
+use std::time::{Clock, Instant};
 
 /// A lock of each kind, the reader-writer locks with so many readers.
 #[derive(Clone, Copy)]
@@ -56,8 +52,8 @@ macro_rules! on {
 
 pub(crate) use on;
 
-/// What each thread does, and what is done once they have ended.
-pub type Lines<'s> = [&'s [Line]; 4];
+/// What each of three threads does, and what is done once they have ended; nothing, where no more is said.
+pub type Lines<'s> = &'s [&'s [Line]];
 
 /// A play at a new lock.
 pub type Play = (&'static str, Setting, Lines<'static>);
@@ -87,12 +83,7 @@ trait Stage<R: Wait + Clock> {
     ) -> Tally;
 }
 
-impl<M, R: Wait + Clock> Stage<R> for Mutex<M, u64>
-where
-    M: AnyRawMutex<Party = ThreadData> + RawMutexFair,
-    M: RawMutexTimed<Duration = Duration, Instant = Instant>,
-    M::Runtime: Wait,
-{
+impl<M: AnyMutex, R: Wait + Clock> Stage<R> for Mutex<M, u64> {
     fn follow(
         &self,
         scene: &Scene<'_, '_, R>,
@@ -114,12 +105,7 @@ where
     }
 }
 
-impl<L, R: Wait + Clock> Stage<R> for RwLock<L, u64>
-where
-    L: AnyRawRwLock<Party = ThreadData> + RawRwLockUpgradeFair + RawRwLockUpgradeDowngrade,
-    L: RawRwLockUpgradeTimed<Duration = Duration, Instant = Instant>,
-    L::Runtime: Wait,
-{
+impl<L: AnyRwLock, R: Wait + Clock> Stage<R> for RwLock<L, u64> {
     fn follow(
         &self,
         scene: &Scene<'_, '_, R>,
@@ -141,13 +127,7 @@ where
     }
 }
 
-impl<M, G, R: Wait + Clock> Stage<R> for ReentrantMutex<M, G, u64>
-where
-    M: AnyRawMutex<Party = ThreadData> + RawMutexFair + Drop,
-    M: RawMutexTimed<Duration = Duration, Instant = Instant>,
-    G: GetThreadId<Party = ThreadData> + Drop,
-    M::Runtime: Wait,
-{
+impl<M: AnyMutex, G: Ids, R: Wait + Clock> Stage<R> for ReentrantMutex<M, G, u64> {
     fn follow(
         &self,
         scene: &Scene<'_, '_, R>,
@@ -203,6 +183,14 @@ fn pair_together<R: Wait + Threads + Clock + Sync, L: Stage<R> + Sync>(
     )
 }
 
+/// What one of them does.
+fn nth<'s>(lines: Lines<'s>, thread: usize) -> &'s [Line] {
+    match lines.get(thread) {
+        Some(lines) => lines,
+        None => &[],
+    }
+}
+
 /// Has the threads follow their lines beside each other, the first on the first lot.
 fn play_together<R: Wait + Threads + Clock + Sync, L: Stage<R> + Sync>(
     own: &ParkingLot<R>,
@@ -211,13 +199,12 @@ fn play_together<R: Wait + Threads + Clock + Sync, L: Stage<R> + Sync>(
     scene: &Scene<'_, '_, R>,
     lines: Lines,
 ) -> [Verdict; 4] {
-    let [first, second, third, last] = lines;
     let (one, (two, three)) = thread::join(
         scene.rt,
-        || act(own, lock, scene, first),
-        || pair_together(others, lock, scene, second, third),
+        || act(own, lock, scene, nth(lines, 0)),
+        || pair_together(others, lock, scene, nth(lines, 1), nth(lines, 2)),
     );
-    [one, two, three, act(own, lock, scene, last)]
+    [one, two, three, act(own, lock, scene, nth(lines, 3))]
 }
 
 /// Makes the rounds as a participant of the lot.
@@ -327,54 +314,43 @@ fn happen<'s, 'l, R: Wait + Threads + Clock + Sync, L: Stage<R> + Sync>(
     }
 }
 
-/// Has it happen at a new mutex.
-fn at_mutex<'s, 'l, R: Wait + Threads + Clock + Sync, M>(
+/// Has it happen at a mutex.
+fn at_mutex<'s, 'l, R: Wait + Threads + Clock + Sync, M: AnyMutex + Sync>(
     rt: &'s R,
     table: &'s LockTable<'l, R>,
     lots: (&ParkingLot<R>, &ParkingLot<R>),
+    mutex: &Mutex<M, u64>,
     past: Instant,
     plan: Plan,
-) -> Result<Outcome, TableFull>
-where
-    M: AnyRawMutex<Party = ThreadData> + RawMutexFair + MakeLock<&'s LockTable<'l, R>>,
-    M: RawMutexTimed<Duration = Duration, Instant = Instant> + Drop + Sync,
-    M::Runtime: Wait,
-{
-    let mutex: Mutex<M, u64> = Mutex::new(table, 0)?;
-    Ok(happen(rt, table, lots, &mutex, past, plan))
+) -> Outcome {
+    happen(rt, table, lots, mutex, past, plan)
 }
 
-/// Has it happen at a new reader-writer lock.
-fn at_rwlock<'s, 'l, R: Wait + Threads + Clock + Sync, L>(
+/// Has it happen at a reader-writer lock.
+fn at_rwlock<'s, 'l, R: Wait + Threads + Clock + Sync, L: AnyRwLock + Sync>(
     rt: &'s R,
     table: &'s LockTable<'l, R>,
     lots: (&ParkingLot<R>, &ParkingLot<R>),
-    readers: u64,
+    lock: &RwLock<L, u64>,
     past: Instant,
     plan: Plan,
-) -> Result<Outcome, TableFull>
-where
-    L: AnyRawRwLock<Party = ThreadData> + RawRwLockUpgradeFair + RawRwLockUpgradeDowngrade,
-    L: RawRwLockUpgradeTimed<Duration = Duration, Instant = Instant> + Drop + Sync,
-    L: MakeLock<&'s LockTable<'l, R>>,
-    L::Runtime: Wait,
-{
-    let lock: RwLock<L, u64> = RwLock::new(table, readers, 0)?;
-    Ok(happen(rt, table, lots, &lock, past, plan))
+) -> Outcome {
+    happen(rt, table, lots, lock, past, plan)
 }
 
-/// Has it happen at a new reentrant mutex of two holds.
-fn at_reentrant<'s, 'l, R: Wait + Threads + Clock + Sync>(
+/// Has it happen at a reentrant mutex.
+fn at_reentrant<'s, 'l, R: Wait + Threads + Clock + Sync, M: AnyMutex + Sync, G: Ids + Sync>(
     rt: &'s R,
     table: &'s LockTable<'l, R>,
     lots: (&ParkingLot<R>, &ParkingLot<R>),
+    mutex: &ReentrantMutex<M, G, u64>,
     past: Instant,
     plan: Plan,
-) -> Result<Outcome, TableFull> {
-    let mutex: ReentrantMutex<RawMutex<'_, '_, R>, RawThreadId, u64> = ReentrantMutex::new(
-        table, 2, 5,
-    )?;
-    Ok(happen(rt, table, lots, &mutex, past, plan))
+) -> Outcome
+where
+    M::Guard: Send + Sync,
+{
+    happen(rt, table, lots, mutex, past, plan)
 }
 
 /// Has it happen at a new lock of that kind.
@@ -387,15 +363,28 @@ fn at_new<'s, 'l, R: Wait + Threads + Clock + Sync>(
     plan: Plan,
 ) -> Result<Outcome, TableFull> {
     match kind {
-        Kind::Plain => at_mutex::<R, RawMutex<'_, '_, R>>(rt, table, lots, past, plan),
-        Kind::Fair => at_mutex::<R, RawFairMutex<'_, '_, R>>(rt, table, lots, past, plan),
+        Kind::Plain => {
+            let mutex: Mutex<RawMutex<'_, '_, R>, u64> = Mutex::new(table, 0)?;
+            Ok(at_mutex(rt, table, lots, &mutex, past, plan))
+        }
+        Kind::Fair => {
+            let mutex: Mutex<RawFairMutex<'_, '_, R>, u64> = Mutex::new(table, 0)?;
+            Ok(at_mutex(rt, table, lots, &mutex, past, plan))
+        }
         Kind::ReadWrite(most) => {
-            at_rwlock::<R, RawRwLock<'_, '_, R, 0>>(rt, table, lots, most, past, plan)
+            let lock: RwLock<RawRwLock<'_, '_, R, 0>, u64> = RwLock::new(table, most, 0)?;
+            Ok(at_rwlock(rt, table, lots, &lock, past, plan))
         }
         Kind::Recursive(most) => {
-            at_rwlock::<R, RawRwLock<'_, '_, R, 1>>(rt, table, lots, most, past, plan)
+            let lock: RwLock<RawRwLock<'_, '_, R, 1>, u64> = RwLock::new(table, most, 0)?;
+            Ok(at_rwlock(rt, table, lots, &lock, past, plan))
         }
-        Kind::Reentrant => at_reentrant(rt, table, lots, past, plan),
+        Kind::Reentrant => {
+            let mutex: ReentrantMutex<RawMutex<'_, '_, R>, RawThreadId, u64> = ReentrantMutex::new(
+                table, 2, 5,
+            )?;
+            Ok(at_reentrant(rt, table, lots, &mutex, past, plan))
+        }
     }
 }
 
@@ -448,7 +437,7 @@ pub fn play_each<R: Wait + Threads + Clock + Abort + Sync + Copy + Drop>(
 ) -> Result<(), Fail> {
     for (name, setting, lines) in plays {
         let plan = Plan {
-            lines: *lines,
+            lines,
             rounds: &[],
             times: 0,
         };
@@ -477,7 +466,7 @@ pub fn crowd_each<R: Wait + Threads + Clock + Abort + Sync + Copy + Drop>(
 ) -> Result<(), Fail> {
     for (name, kind, rounds, times, (least, most)) in crowds {
         let plan = Plan {
-            lines: [&[], &[], &[], &[]],
+            lines: &[],
             rounds,
             times: *times,
         };
