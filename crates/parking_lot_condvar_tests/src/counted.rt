@@ -1,6 +1,6 @@
 //! A hundred thousand notifications between four threads, of which none may be lost: else a thread waits for ever.
 
-use crate::lots::{Trial, goes_on_table};
+use crate::trials::{Trial, goes_on_table};
 use lock_api::{Condvar, Mutex, TableFull};
 use parking_lot_mutex::condvar::RawCondvar;
 use parking_lot_mutex::{LockTable, RawMutex};
@@ -61,20 +61,19 @@ fn turns<'t, 'l, R: Wait>(shared: &Shared<'t, 'l, R>, gives: bool) -> u64 {
     done
 }
 
-/// Four threads, of which each second one hands over, and the others take.
-#[derive(Clone, Copy)]
-struct Counted;
-
-impl<R: Wait + Threads + Sync> Trial<R> for Counted {
-    fn goes(self, rt: &R, alloc: Global, table: &LockTable<'_, R>) -> Result<bool, Fail> {
-        let shared = Shared::on(table)?;
-        let done = thread::map_indices(rt, alloc, 4, &|number| turns(&shared, number % 2 == 0))?;
-        Ok(done.iter().all(|count| *count == 25_000))
-    }
+/// Whether four threads, of which each second one hands over and the others take, do so as often as each is to.
+pub fn goes<R: Wait + Threads + Sync>(
+    rt: &R,
+    alloc: Global,
+    table: &LockTable<'_, R>,
+) -> Result<bool, Fail> {
+    let shared = Shared::on(table)?;
+    let done = thread::map_indices(rt, alloc, 4, &|number| turns(&shared, number % 2 == 0))?;
+    Ok(done.iter().all(|count| *count == 25_000))
 }
 
 #[test]
 fn no_notification_is_lost(rt: HostRuntime) -> Result<(), Fail> {
-    assert!(rt; goes_on_table(rt, rt.alloc(), 4, 3, Counted)? == (true, true));
+    assert!(rt; goes_on_table(rt, rt.alloc(), 4, 3, Trial::Counted)? == (true, true));
     Ok(())
 }

@@ -1,6 +1,6 @@
 //! Tests of the condition variable and of one-time initialization, for what no clause of them says: their words, calls
 //! told one thing after another, which waiters are moved and woken, that no notification is lost, that a mutex excludes
-//! beside waits, and that one closure at most ends well. The names of `parking_lot` are each used here, too.
+//! beside waits, and that one closure at most ends well.
 #![tactic(auto)]
 
 #[cfg(test)]
@@ -10,8 +10,6 @@ mod counted;
 #[cfg(test)]
 mod lots;
 #[cfg(test)]
-mod names;
-#[cfg(test)]
 mod once_calls;
 #[cfg(test)]
 mod once_crowd;
@@ -20,8 +18,6 @@ mod once_plays;
 #[cfg(test)]
 mod once_stage;
 #[cfg(test)]
-mod paths;
-#[cfg(test)]
 mod plays;
 #[cfg(test)]
 mod raw_crowd;
@@ -29,5 +25,7 @@ mod raw_crowd;
 mod stage;
 #[cfg(test)]
 mod texts;
+#[cfg(test)]
+mod trials;
 #[cfg(test)]
 mod words;

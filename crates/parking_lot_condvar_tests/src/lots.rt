@@ -42,12 +42,6 @@ pub fn two_tables<'l, R>(alloc: Global, lots: &'l Lots<R>) -> Result<Tables<'l, 
     })
 }
 
-/// Something to be tried on a table.
-pub trait Trial<R>: Copy {
-    /// Whether all goes as it is to.
-    fn goes(self, rt: &R, alloc: Global, table: &LockTable<'_, R>) -> Result<bool, Fail>;
-}
-
 /// Whether the first rows of a table have the word 0.
 pub fn are_free<R>(table: &LockTable<'_, R>, rows: usize) -> bool {
     for row in 0..rows {
@@ -56,29 +50,4 @@ pub fn are_free<R>(table: &LockTable<'_, R>, rows: usize) -> bool {
         }
     }
     true
-}
-
-/// Whether it goes well on a lot.
-fn on_lot<R, T: Trial<R>>(
-    rt: &R,
-    alloc: Global,
-    lot: &ParkingLot<R>,
-    rows: usize,
-    trial: T,
-) -> Result<(bool, bool), Fail> {
-    let table = LockTable::new(alloc, lot, rows)?;
-    let well = trial.goes(rt, alloc, &table)?;
-    Ok((well, are_free(&table, rows)))
-}
-
-/// Whether it goes well on a table of so many rows, on a new lot of so many threads, and whether all words are 0 then.
-pub fn goes_on_table<R: Drop + Copy, T: Trial<R>>(
-    rt: R,
-    alloc: Global,
-    threads: usize,
-    rows: usize,
-    trial: T,
-) -> Result<(bool, bool), Fail> {
-    let lot = ParkingLot::new(rt, alloc, threads, 7)?;
-    on_lot(&rt, alloc, &lot, rows, trial)
 }

@@ -1,6 +1,6 @@
 //! Many threads at once.
 
-use crate::lots::{Trial, goes_on_table};
+use crate::trials::{Trial, goes_on_table};
 use parking_lot_core::ThreadData;
 use parking_lot_driver::LockTable;
 use parking_lot_mutex::once::Once;
@@ -26,7 +26,7 @@ fn run(runs: &AtomicU64) -> u64 {
 
 /// What each of four threads does at each thing.
 #[derive(Clone, Copy)]
-enum Crowd {
+pub enum Crowd {
     /// It calls with a closure, of which one has run by then.
     Calls,
     /// It forces a call, with a closure that fails unless two have failed there.
@@ -111,18 +111,22 @@ fn four<R: Wait + Threads + Sync>(
     Ok((well, are_over(&things, runs)))
 }
 
-impl<R: Wait + Threads + Sync> Trial<R> for Crowd {
-    fn goes(self, rt: &R, alloc: Global, table: &LockTable<'_, R>) -> Result<bool, Fail> {
-        match self {
-            Crowd::Calls => Ok(four(rt, alloc, table, self, 1)? == (4 * THINGS, true)),
-            Crowd::Forces => Ok(four(rt, alloc, table, self, 3)? == (2 * THINGS, true)),
-        }
+/// Whether all of the calls end well, or half of those that are forced.
+pub fn goes<R: Wait + Threads + Sync>(
+    rt: &R,
+    alloc: Global,
+    table: &LockTable<'_, R>,
+    crowd: Crowd,
+) -> Result<bool, Fail> {
+    match crowd {
+        Crowd::Calls => Ok(four(rt, alloc, table, crowd, 1)? == (4 * THINGS, true)),
+        Crowd::Forces => Ok(four(rt, alloc, table, crowd, 3)? == (2 * THINGS, true)),
     }
 }
 
 #[test]
 fn of_four_threads_one_runs_its_closure(rt: HostRuntime) -> Result<(), Fail> {
-    let (well, _are_free) = goes_on_table(rt, rt.alloc(), 4, THINGS, Crowd::Calls)?;
+    let (well, _are_free) = goes_on_table(rt, rt.alloc(), 4, THINGS, Trial::Onces(Crowd::Calls))?;
     assert!(rt; well);
     Ok(())
 }
@@ -131,7 +135,7 @@ fn of_four_threads_one_runs_its_closure(rt: HostRuntime) -> Result<(), Fail> {
 fn of_four_closures_two_fail_one_ends_well_and_one_is_left_out(
     rt: HostRuntime,
 ) -> Result<(), Fail> {
-    let (well, _are_free) = goes_on_table(rt, rt.alloc(), 4, THINGS, Crowd::Forces)?;
+    let (well, _are_free) = goes_on_table(rt, rt.alloc(), 4, THINGS, Trial::Onces(Crowd::Forces))?;
     assert!(rt; well);
     Ok(())
 }

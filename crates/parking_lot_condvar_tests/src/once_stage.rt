@@ -257,7 +257,7 @@ fn follow_together<R: Wait + Threads + Clock + Sync>(
 pub type Play = (&'static str, Made, u64, &'static [&'static [Line]]);
 
 /// A once on a new table.
-fn made<'t, 'l, R>(table: &'t LockTable<'l, R>, made: Made) -> Result<Once<'t, 'l, R>, TableFull> {
+fn new_once<'t, 'l, R>(table: &'t LockTable<'l, R>, made: Made) -> Result<Once<'t, 'l, R>, TableFull> {
     match made {
         Made::New => Once::new(table),
         Made::ByDefault => Once::default(table),
@@ -274,7 +274,7 @@ fn on_lots<R: Wait + Threads + Clock + Sync>(
 ) -> Result<[Option<usize>; 2], Fail> {
     let (_name, how, number, lines) = *play;
     let table = LockTable::new(alloc, &lots.one, 1)?;
-    let once = made(&table, how)?;
+    let once = new_once(&table, how)?;
     let scene = Scene {
         once: &once,
         table: &table,

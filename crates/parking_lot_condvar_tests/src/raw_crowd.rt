@@ -1,7 +1,7 @@
 //! Four threads that take a raw mutex by each of its calls, and give it up by each: nobody else is inside meanwhile.
 ghost use Rattle.std.specs.Prelude.{◌≡◌, IfSome};
 
-use crate::lots::{Trial, goes_on_table};
+use crate::trials::{Trial, goes_on_table};
 use lock_api_raw::{
     MakeCondvar, MakeLock, RawCondvarTimed, RawMutex as Raw, RawMutexFair, RawMutexTimed, TableFull,
 };
@@ -144,23 +144,22 @@ fn goes_on<'t, 'l, R: Wait + Clock>(shared: &Shared<'t, 'l, R>) -> u64 {
     inside
 }
 
-/// Four threads that are inside one at a time, and often enough.
-#[derive(Clone, Copy)]
-struct Crowd;
-
-impl<R: Wait + Threads + Clock + Sync> Trial<R> for Crowd {
-    fn goes(self, rt: &R, alloc: Global, table: &LockTable<'_, R>) -> Result<bool, Fail> {
-        let shared = Shared::on(table)?;
-        let mut inside = 0u64;
-        for count in thread::map_indices(rt, alloc, 4, &|_number| goes_on(&shared))?.iter() {
-            inside = inside.wrapping_add(*count);
-        }
-        Ok((shared.sum.load(Ordering::SeqCst) == inside) & (inside >= 20_000))
+/// Whether four threads are inside one at a time, and often enough.
+pub fn goes<R: Wait + Threads + Clock + Sync>(
+    rt: &R,
+    alloc: Global,
+    table: &LockTable<'_, R>,
+) -> Result<bool, Fail> {
+    let shared = Shared::on(table)?;
+    let mut inside = 0u64;
+    for count in thread::map_indices(rt, alloc, 4, &|_number| goes_on(&shared))?.iter() {
+        inside = inside.wrapping_add(*count);
     }
+    Ok((shared.sum.load(Ordering::SeqCst) == inside) & (inside >= 20_000))
 }
 
 #[test]
 fn a_mutex_excludes_by_whatever_call_it_is_taken(rt: HostRuntime) -> Result<(), Fail> {
-    assert!(rt; goes_on_table(rt, rt.alloc(), 4, 2, Crowd)? == (true, true));
+    assert!(rt; goes_on_table(rt, rt.alloc(), 4, 2, Trial::RawCrowd)? == (true, true));
     Ok(())
 }

@@ -2,10 +2,12 @@
 
 use crate::lots::{Lots, Tables, are_free, two_lots, two_tables};
 use crate::words::{are_counted, has_come, judge, nth};
-use lock_api::{Condvar, Mutex, MutexGuard, TableFull, WaitFault, WaitTimeoutResult};
+use lock_api::{Condvar, Guard, Mutex, MutexGuard, WaitFault, WaitTimeoutResult};
+use lock_api_guards::Hold;
+use lock_api_raw::{RawCondvarTimed, RawMutex, RawMutexTimed};
 use parking_lot_core::{ParkingLot, ThreadData};
 use parking_lot_mutex::condvar::RawCondvar;
-use parking_lot_mutex::{LockTable, RawMutex};
+use parking_lot_mutex::{self as running, LockTable};
 use std::alloc::{AllocError, Global};
 use std::process::Abort;
 use std::sync::Wait;
@@ -110,36 +112,36 @@ pub enum Answer {
 /// A step, and what it is to be answered.
 pub type Line = (Step, Answer);
 
-/// A mutex of a number.
-type Number<'t, 'l, R> = Mutex<RawMutex<'t, 'l, R>, u64>;
+/// A raw mutex that is waited with.
+pub trait AnyMutex: RawMutex<Runtime: Wait, Party = ThreadData>
+    + RawMutexTimed<Duration = Duration, Instant = Instant> {}
 
-/// Two mutexes on the first table, and one on the other.
-#[derive(Drop)]
-struct Mutexes<'t, 'l, R> {
-    first: Number<'t, 'l, R>,
-    second: Number<'t, 'l, R>,
-    strange: Number<'t, 'l, R>,
-}
+impl<
+    M: RawMutex<Runtime: Wait, Party = ThreadData>
+        + RawMutexTimed<Duration = Duration, Instant = Instant>,
+> AnyMutex for M {}
 
-/// What threads share.
+/// What threads share: a condition variable, two mutexes of its lot, and one of another lot.
 #[derive(Drop)]
-struct Scene<'t, 'l, R> {
-    condvar: Condvar<RawCondvar<'t, 'l, R>>,
-    mutexes: Mutexes<'t, 'l, R>,
-    table: &'t LockTable<'l, R>,
+struct Scene<'s, 'l, M: AnyMutex, V, R> {
+    condvar: &'s Condvar<V>,
+    first: &'s Mutex<M, u64>,
+    second: &'s Mutex<M, u64>,
+    strange: &'s Mutex<M, u64>,
+    table: &'s LockTable<'l, R>,
     about: AtomicU64,
     back: AtomicU64,
     past: Instant,
     later: Instant,
 }
 
-impl<'t, 'l, R> Scene<'t, 'l, R> {
+impl<'s, 'l, M: AnyMutex, V, R> Scene<'s, 'l, M, V, R> {
     /// The mutex.
-    fn mutex(&self, which: Which) -> &Number<'t, 'l, R> {
+    fn mutex(&self, which: Which) -> &'s Mutex<M, u64> {
         match which {
-            Which::First => &self.mutexes.first,
-            Which::Second => &self.mutexes.second,
-            Which::Strange => &self.mutexes.strange,
+            Which::First => self.first,
+            Which::Second => self.second,
+            Which::Strange => self.strange,
         }
     }
 
@@ -201,10 +203,10 @@ fn ended_in_time(waited: Result<WaitTimeoutResult, WaitFault>) -> Answer {
 }
 
 /// Waits so with a guard.
-fn wait_so<'t, 'l, R: Wait + Clock>(
+fn wait_so<M: AnyMutex, V: RawCondvarTimed<RawMutex = M>, R: Clock>(
     rt: &R,
-    scene: &Scene<'t, 'l, R>,
-    guard: &mut MutexGuard<'_, RawMutex<'t, 'l, R>, u64>,
+    scene: &Scene<'_, '_, M, V, R>,
+    guard: &mut MutexGuard<'_, M, u64>,
     me: &mut ThreadData,
     form: Form,
 ) -> Answer {
@@ -238,7 +240,11 @@ fn whether(so: bool) -> Answer {
 }
 
 /// Makes a step for which no guard is asked.
-fn look<R: Wait + Clock>(rt: &R, scene: &Scene<'_, '_, R>, step: Step) -> Answer {
+fn look<M: AnyMutex, V: RawCondvarTimed<RawMutex = M>, R: Clock>(
+    rt: &R,
+    scene: &Scene<'_, '_, M, V, R>,
+    step: Step,
+) -> Answer {
     match step {
         Step::NotifyOne => whether(scene.condvar.notify_one()),
         Step::NotifyAll => Answer::Number(scene.condvar.notify_all() as u64),
@@ -263,10 +269,10 @@ fn look<R: Wait + Clock>(rt: &R, scene: &Scene<'_, '_, R>, step: Step) -> Answer
 }
 
 /// Makes a step by a guard that is kept.
-fn does<'t, 'l, R: Wait + Clock>(
+fn does<M: AnyMutex, V: RawCondvarTimed<RawMutex = M>, R: Clock>(
     rt: &R,
-    scene: &Scene<'t, 'l, R>,
-    guard: &mut MutexGuard<'_, RawMutex<'t, 'l, R>, u64>,
+    scene: &Scene<'_, '_, M, V, R>,
+    guard: &mut MutexGuard<'_, M, u64>,
     me: &mut ThreadData,
     step: Step,
 ) -> Answer {
@@ -281,34 +287,43 @@ fn does<'t, 'l, R: Wait + Clock>(
     }
 }
 
+/// Keeps a guard, or lets it go.
+fn keep<W: Drop, H: Hold>(held: &mut Option<Guard<W, H>>, guard: Option<Guard<W, H>>)
+where
+    H::Runtime: Wait,
+{
+    *held = guard;
+}
+
 /// Makes one step, with the guard that is kept.
-fn make<'s, 't, 'l, R: Wait + Clock>(
+fn make<'s, M: AnyMutex, V: RawCondvarTimed<RawMutex = M>, R: Clock>(
     rt: &R,
-    scene: &'s Scene<'t, 'l, R>,
-    held: Option<MutexGuard<'s, RawMutex<'t, 'l, R>, u64>>,
+    scene: &Scene<'s, '_, M, V, R>,
+    held: &mut Option<MutexGuard<'s, M, u64>>,
     me: &mut ThreadData,
     step: Step,
-) -> (Option<MutexGuard<'s, RawMutex<'t, 'l, R>, u64>>, Answer) {
-    match (held, step) {
-        (None, Step::Lock(which)) => (Some(scene.mutex(which).lock(me)), Answer::Done),
-        (None, step) => (None, look(rt, scene, step)),
-        (Some(guard), Step::Unlock) => {
-            drop(guard);
-            (None, Answer::Done)
+) -> Answer {
+    match step {
+        Step::Lock(which) if held.is_none() => {
+            keep(held, Some(scene.mutex(which).lock(me)));
+            Answer::Done
         }
-        (Some(guard), step) => {
-            let mut guard = guard;
-            let answer = does(rt, scene, &mut guard, me, step);
-            (Some(guard), answer)
+        Step::Unlock if held.is_some() => {
+            keep(held, None);
+            Answer::Done
         }
+        step => match held {
+            Some(guard) => does(rt, scene, guard, me, step),
+            None => look(rt, scene, step),
+        },
     }
 }
 
 /// Follows the lines as a participant of the lot: the first that is answered otherwise.
-fn follow<R: Wait + Clock>(
+fn follow<M: AnyMutex, V: RawCondvarTimed<RawMutex = M>, R: Wait + Clock>(
     rt: &R,
     lot: &ParkingLot<R>,
-    scene: &Scene<'_, '_, R>,
+    scene: &Scene<'_, '_, M, V, R>,
     lines: &[Line],
 ) -> Option<usize> {
     let Ok(mut me) = lot.thread_data() else {
@@ -316,9 +331,7 @@ fn follow<R: Wait + Clock>(
     };
     let mut held = None;
     for (at, (step, expected)) in lines.iter().enumerate() {
-        let (kept, answer) = make(rt, scene, held, &mut me, *step);
-        held = kept;
-        if answer != *expected {
+        if make(rt, scene, &mut held, &mut me, *step) != *expected {
             return Some(at);
         }
     }
@@ -329,12 +342,16 @@ fn follow<R: Wait + Clock>(
 type Verdicts = Vec<Option<usize>>;
 
 /// Has three threads follow their lines beside each other, the third as a participant of a lot of that number.
-fn follow_together<R: Wait + Threads + Clock + Sync>(
+fn follow_together<
+    M: AnyMutex + Sync,
+    V: RawCondvarTimed<RawMutex = M> + Sync,
+    R: Wait + Threads + Clock + Sync,
+>(
     rt: &R,
     alloc: Global,
     lots: &Lots<R>,
     number: u64,
-    scene: &Scene<'_, '_, R>,
+    scene: &Scene<'_, '_, M, V, R>,
     lines: &[&[Line]],
 ) -> Result<Verdicts, AllocError> {
     let lot_of = |thread| lots.of(if thread == 2 { number } else { 7 });
@@ -342,36 +359,43 @@ fn follow_together<R: Wait + Threads + Clock + Sync>(
     thread::map_indices(rt, alloc, 3, &follows)
 }
 
-/// Mutexes of 0 on new tables.
-fn mutexes<'t, 'l, R>(tables: &'t Tables<'l, R>) -> Result<Mutexes<'t, 'l, R>, TableFull> {
-    Ok(Mutexes {
-        first: Mutex::new(&tables.one, 0)?,
-        second: Mutex::new(&tables.one, 0)?,
-        strange: Mutex::new(&tables.other, 0)?,
-    })
-}
+/// The number of the third thread's lot, and what each thread does; nothing, where no more is said.
+pub type Play = (&'static str, u64, &'static [&'static [Line]]);
 
-/// A scene on new tables.
-fn scene_on<'t, 'l, R: Wait + Clock>(
+/// Has the threads follow their lines at that condition variable and those mutexes.
+fn at<
+    's,
+    'l,
+    M: AnyMutex + Sync,
+    V: RawCondvarTimed<RawMutex = M> + Sync,
+    R: Wait + Threads + Clock + Sync,
+>(
     rt: &R,
-    tables: &'t Tables<'l, R>,
-) -> Result<Scene<'t, 'l, R>, Fail> {
+    alloc: Global,
+    lots: &Lots<R>,
+    table: &'s LockTable<'l, R>,
+    condvar: &'s Condvar<V>,
+    mutexes: [&'s Mutex<M, u64>; 3],
+    play: &Play,
+) -> Result<Verdicts, Fail> {
+    let (_name, number, lines) = *play;
+    let [first, second, strange] = mutexes;
     let past = Instant::now(rt)?;
-    Ok(Scene {
-        condvar: Condvar::new(&tables.one)?,
-        mutexes: mutexes(tables)?,
-        table: &tables.one,
+    let scene = Scene {
+        condvar,
+        first,
+        second,
+        strange,
+        table,
         about: AtomicU64::new(0),
         back: AtomicU64::new(0),
         past,
         later: past.checked_add(Duration::from_secs(50)).unwrap_or(past),
-    })
+    };
+    Ok(follow_together(rt, alloc, lots, number, &scene, lines)?)
 }
 
-/// The number of the third thread's lot, and what each thread does; nothing, where no more is said.
-pub type Play = (&'static str, u64, &'static [&'static [Line]]);
-
-/// Has the threads follow their lines at a new condition variable.
+/// Has them follow at a new condition variable.
 fn on_tables<R: Wait + Threads + Clock + Sync>(
     rt: &R,
     alloc: Global,
@@ -379,9 +403,12 @@ fn on_tables<R: Wait + Threads + Clock + Sync>(
     tables: &Tables<'_, R>,
     play: &Play,
 ) -> Result<Verdicts, Fail> {
-    let (_name, number, lines) = *play;
-    let scene = scene_on(rt, tables)?;
-    Ok(follow_together(rt, alloc, lots, number, &scene, lines)?)
+    let condvar: Condvar<RawCondvar<'_, '_, R>> = Condvar::new(&tables.one)?;
+    let first: Mutex<running::RawMutex<'_, '_, R>, u64> = Mutex::new(&tables.one, 0)?;
+    let second: Mutex<running::RawMutex<'_, '_, R>, u64> = Mutex::new(&tables.one, 0)?;
+    let strange: Mutex<running::RawMutex<'_, '_, R>, u64> = Mutex::new(&tables.other, 0)?;
+    let mutexes = [&first, &second, &strange];
+    at(rt, alloc, lots, &tables.one, &condvar, mutexes, play)
 }
 
 /// The same on new tables, and whether all words are 0 in the end.

@@ -1,6 +1,6 @@
 //! What is shown, and what is refused for want of a row.
 
-use crate::lots::{Trial, goes_on_table};
+use crate::trials::{Trial, goes_on_table};
 use lock_api::Condvar;
 use lock_api_raw::{MakeCondvar as _, TableFull};
 use parking_lot_driver::LockTable;
@@ -50,20 +50,15 @@ fn are_refused<R: Wait>(table: &LockTable<'_, R>) -> bool {
     is_full & is_full_once & (Once::default(table).err() == Some(TableFull))
 }
 
-/// What is shown on three rows, and then refused.
-#[derive(Clone, Copy)]
-struct Texts;
-
-impl<R: Wait> Trial<R> for Texts {
-    fn goes(self, _rt: &R, alloc: Global, table: &LockTable<'_, R>) -> Result<bool, Fail> {
-        let shown = are_onces_shown(alloc, table)? & is_condvar_shown(alloc, table)?;
-        Ok(shown & are_refused(table) & are_refusals_shown(alloc)?)
-    }
+/// Whether what stands on three rows is shown, and then what is refused.
+pub fn goes<R: Wait>(alloc: Global, table: &LockTable<'_, R>) -> Result<bool, Fail> {
+    let shown = are_onces_shown(alloc, table)? & is_condvar_shown(alloc, table)?;
+    Ok(shown & are_refused(table) & are_refusals_shown(alloc)?)
 }
 
 #[test]
 fn texts_and_codes(rt: HostRuntime) -> Result<(), Fail> {
-    let (well, _are_free) = goes_on_table(rt, rt.alloc(), 1, 3, Texts)?;
+    let (well, _are_free) = goes_on_table(rt, rt.alloc(), 1, 3, Trial::Texts)?;
     assert!(rt; well);
     Ok(())
 }

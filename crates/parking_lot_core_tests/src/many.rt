@@ -8,7 +8,7 @@ use parking_lot_core::{
     ThreadData, UnparkToken, park, thread_yield, unpark_all, unpark_filter, unpark_one,
     unpark_requeue,
 };
-use refusing_heap::{Case, Heap, Said, Seen, make_in_turn};
+use refusing_heap::{Heap, Refusal, RefusingHeap, Said, Seen};
 use std::alloc::{AllocError, Allocator, Global};
 use std::sync::Wait;
 use std::sync::atomic::{AtomicUsize, Ordering};
@@ -165,7 +165,7 @@ fn takes_part<R: Wait + Clock>(
 }
 
 /// One thread is woken a hundred thousand times under one key, as often as it parks, and at the end nobody is left.
-fn is_none_lost<R: Wait + Threads + Clock + Sync>(rt: &R, lot: &ParkingLot<R>) -> bool {
+pub fn is_none_lost<R: Wait + Threads + Clock + Sync>(rt: &R, lot: &ParkingLot<R>) -> bool {
     let keys = Keys { first: 3, count: 1 };
     let over = AtomicUsize::new(0);
     let done = AtomicUsize::new(0);
@@ -178,7 +178,7 @@ fn is_none_lost<R: Wait + Threads + Clock + Sync>(rt: &R, lot: &ParkingLot<R>) -
 }
 
 /// None is lost while buckets grow.
-fn none_is_lost<R: Wait + Threads + Clock + Sync>(
+pub fn none_is_lost<R: Wait + Threads + Clock + Sync>(
     rt: &R,
     alloc: Global,
     lot: &ParkingLot<R>,
@@ -289,7 +289,7 @@ fn wrong_step<R: Wait>(lot: &ParkingLot<R>, joined: &AtomicUsize) -> Option<usiz
 const SLEEPERS: [usize; 6] = [3, 3, 67, 67, 4, 5];
 
 /// Whether neighbouring lists stay as they are to while six sleep and the calls are made, and each is told its token.
-fn lists_stay<R: Wait + Threads + Clock + Sync>(
+pub fn lists_stay<R: Wait + Threads + Clock + Sync>(
     rt: &R,
     alloc: Global,
     lot: &ParkingLot<R>,
@@ -335,50 +335,31 @@ fn moved_then_late<R: Wait + Clock>(
 }
 
 /// A moved thread gives up at its new key.
-fn gives_up<R: Wait + Clock>(rt: &R, lot: &ParkingLot<R>, other: usize) -> bool {
+pub fn gives_up<R: Wait + Clock>(rt: &R, lot: &ParkingLot<R>, other: usize) -> bool {
     let is_late = moved_then_late(rt, lot, other) == Some((ParkResult::TimedOut, other, true));
     is_late & (list(lot, 3) == 0) & (list(lot, other) == 0)
 }
 
-/// What many threads do, or one that is moved.
-#[derive(Clone, Copy)]
-enum Many {
-    Unparks,
-    Grow,
-    Neighbours,
-    Moved,
-}
-
-impl<R: Wait + Threads + Clock + Sync> Trial<R> for Many {
-    fn goes(self, rt: &R, alloc: Global, lot: &ParkingLot<R>) -> bool {
-        match self {
-            Many::Unparks => is_none_lost(rt, lot),
-            Many::Grow => none_is_lost(rt, alloc, lot) == Ok(true),
-            Many::Neighbours => lists_stay(rt, alloc, lot),
-            Many::Moved => gives_up(rt, lot, 4) && gives_up(rt, lot, 19),
-        }
-    }
-}
-
 #[test]
 fn a_hundred_thousand_unparks_are_not_lost(rt: HostRuntime) -> Result<(), Fail> {
-    assert!(rt; goes_well(rt, rt.alloc(), 2, Many::Unparks)?);
+    assert!(rt; goes_well(rt, rt.alloc(), 2, Trial::HundredThousand)?);
     Ok(())
 }
 
 #[test]
 fn none_is_lost_while_buckets_grow(rt: HostRuntime) -> Result<(), Fail> {
-    assert!(rt; goes_well(rt, rt.alloc(), 100, Many::Grow)?);
+    assert!(rt; goes_well(rt, rt.alloc(), 100, Trial::Grows)?);
     Ok(())
 }
 
 #[test]
 fn lists_of_a_bucket_stay(rt: HostRuntime) -> Result<(), Fail> {
-    assert!(rt;
-        goes_well(rt, rt.alloc(), 46, Many::Neighbours)?,
-        "neighbours"
-    );
-    assert!(rt; goes_well(rt, rt.alloc(), 4, Many::Moved)?, "moved");
+    for (threads, trial) in [(46, Trial::Neighbours), (4, Trial::Moved)] {
+        assert!(rt;
+            goes_well(rt, rt.alloc(), threads, trial)?,
+            "{threads} threads"
+        );
+    }
     Ok(())
 }
 
@@ -451,24 +432,40 @@ fn run_beside<'h, R: Wait + Threads + Clock + Sync>(
     }
 }
 
-/// A registration behind so many, while one of them sleeps under key 3.
-#[derive(Clone, Copy)]
-struct Beside(usize);
+/// The same in this memory.
+fn run_in<R: Wait + Threads + Clock + Sync + Copy + Drop>(
+    rt: R,
+    heap: &Heap,
+    threads: usize,
+) -> Option<Seen> {
+    match ParkingLot::new(rt, heap, 40, 7) {
+        Ok(lot) => run_beside(&rt, heap, &lot, threads),
+        Err(_) => None,
+    }
+}
 
-impl<R: Wait + Threads + Clock + Sync + Copy + Drop> Case<R> for Beside {
-    fn run(self, rt: R, heap: &Heap) -> Option<Seen> {
-        let Beside(threads) = self;
-        match ParkingLot::new(rt, heap, 40, 7) {
-            Ok(lot) => run_beside(&rt, heap, &lot, threads),
-            Err(_) => None,
+/// The same with ample memory, and with each growth of it refused in turn. Answers how many there are, where all stood.
+fn run_in_turn<R: Wait + Threads + Clock + Sync + Copy + Drop>(
+    rt: R,
+    alloc: Global,
+    threads: usize,
+) -> Option<u64> {
+    let seen = run_in(rt, &RefusingHeap::new(alloc, Refusal::Never), threads)?;
+    let growths = seen.behind.saturating_sub(seen.before);
+    for growth in 0..growths {
+        let number = seen.before.saturating_add(growth).saturating_add(1);
+        let heap = RefusingHeap::new(alloc, Refusal::Once(number));
+        if !run_in(rt, &heap, threads)?.stood || heap.refused() != 1 {
+            return None;
         }
     }
+    if seen.stood { Some(growths) } else { None }
 }
 
 #[test]
 fn a_refused_growth_leaves_a_sleeper(rt: HostRuntime) {
     for (threads, growths) in [(1, 1), (5, 2), (10, 2), (16, 3)] {
-        let refused = make_in_turn(rt, rt.alloc(), Beside(threads)).unwrap_or(0);
+        let refused = run_in_turn(rt, rt.alloc(), threads).unwrap_or(0);
         assert!(rt; refused == growths, "behind {threads}: {refused} growths");
     }
 }

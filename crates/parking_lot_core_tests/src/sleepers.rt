@@ -93,7 +93,7 @@ fn unparked_then<R: Wait>(lot: &ParkingLot<R>, step: &AtomicUsize) -> bool {
 }
 
 /// Whether a deadline behind a taking is no time out: another takes the thread, which isn't told to be late.
-fn is_in_time<R: Wait + Threads + Clock + Sync>(rt: &R, lot: &ParkingLot<R>) -> bool {
+pub fn is_in_time<R: Wait + Threads + Clock + Sync>(rt: &R, lot: &ParkingLot<R>) -> bool {
     let step = AtomicUsize::new(0);
     let late = AtomicUsize::new(0);
     let (ended, woke) = thread::join(
@@ -178,7 +178,7 @@ fn filters<R: Wait>(
 }
 
 /// Whether the filters wake whom they want.
-fn are_filtered<R: Wait + Threads + Clock + Sync>(
+pub fn are_filtered<R: Wait + Threads + Clock + Sync>(
     rt: &R,
     alloc: Global,
     lot: &ParkingLot<R>,
@@ -213,7 +213,7 @@ fn requeues<R: Wait>(
 }
 
 /// Whether those that were requeued wake under the other key.
-fn are_requeued<R: Wait + Threads + Clock + Sync>(
+pub fn are_requeued<R: Wait + Threads + Clock + Sync>(
     rt: &R,
     alloc: Global,
     lot: &ParkingLot<R>,
@@ -360,7 +360,11 @@ fn await_turn<R: Wait + Clock>(
 }
 
 /// Whether two threads hand a turn to one another so often.
-fn hand_turns<R: Wait + Threads + Clock + Sync>(rt: &R, lot: &ParkingLot<R>, rounds: u32) -> bool {
+pub fn hand_turns<R: Wait + Threads + Clock + Sync>(
+    rt: &R,
+    lot: &ParkingLot<R>,
+    rounds: u32,
+) -> bool {
     let turn = AtomicUsize::new(0);
     let (left, right) = thread::join(
         rt,
@@ -370,38 +374,16 @@ fn hand_turns<R: Wait + Threads + Clock + Sync>(rt: &R, lot: &ParkingLot<R>, rou
     left & right & (turn.load(Ordering::SeqCst) == 0)
 }
 
-/// What sleepers are woken by.
-#[derive(Clone, Copy)]
-enum Waking {
-    InTime,
-    Filters,
-    Requeues,
-    Fair,
-    Turns,
-}
-
-impl<R: Wait + Threads + Clock + Sync> Trial<R> for Waking {
-    fn goes(self, rt: &R, alloc: Global, lot: &ParkingLot<R>) -> bool {
-        match self {
-            Waking::InTime => is_in_time(rt, lot),
-            Waking::Filters => are_filtered(rt, alloc, lot),
-            Waking::Requeues => are_requeued(rt, alloc, lot),
-            Waking::Fair => are_fair(lot, 257, true),
-            Waking::Turns => hand_turns(rt, lot, 100),
-        }
-    }
-}
-
 #[test]
 fn sleepers_are_woken(rt: HostRuntime) -> Result<(), Fail> {
-    for (name, threads, waking) in [
-        ("a deadline behind a taking", 2, Waking::InTime),
-        ("a filter takes whom it wants", 3, Waking::Filters),
-        ("those that are requeued", 3, Waking::Requeues),
-        ("each 64th unpark or filter", 2, Waking::Fair),
-        ("a turn to and fro", 2, Waking::Turns),
+    for (name, threads, trial) in [
+        ("a deadline behind a taking", 2, Trial::InTime),
+        ("a filter takes whom it wants", 3, Trial::Filters),
+        ("those that are requeued", 3, Trial::Requeues),
+        ("each 64th unpark or filter", 2, Trial::FairFilters),
+        ("a turn to and fro", 2, Trial::Turns),
     ] {
-        assert!(rt; goes_well(rt, rt.alloc(), threads, waking)?, "{name}");
+        assert!(rt; goes_well(rt, rt.alloc(), threads, trial)?, "{name}");
     }
     Ok(())
 }

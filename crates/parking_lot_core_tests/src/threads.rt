@@ -7,7 +7,7 @@ use parking_lot_core::{
     SizeFault, SpinWait, ThreadData, UnparkResult, UnparkToken, WordLock, deadlock, park,
     unpark_all, unpark_one, unpark_requeue,
 };
-use std::alloc::{Allocator, Global};
+use std::alloc::Allocator;
 use std::sync::Wait;
 use std::sync::atomic::AtomicUsize;
 use std::test::Fail;
@@ -34,7 +34,7 @@ pub fn admitted<R: Wait, A: Allocator + Clone + Drop>(
 }
 
 /// Whether a second participant has the next number, a third is refused, and a number is given out again.
-fn are_counted<R: Wait>(lot: &ParkingLot<R>) -> Option<bool> {
+pub fn are_counted<R: Wait>(lot: &ParkingLot<R>) -> Option<bool> {
     let first = lot.thread_data().ok()?;
     let second = lot.thread_data().ok()?;
     let is_second = (second.lot_number() == 7) & (second.thread_number() == 1);
@@ -47,11 +47,11 @@ fn are_counted<R: Wait>(lot: &ParkingLot<R>) -> Option<bool> {
 /// A park of a thread that is alone: whether its validation says yes, whether it unparks itself right before it sleeps,
 /// and whether its moment is past.
 #[derive(Clone, Copy)]
-struct Alone(bool, bool, bool);
+pub struct Alone(bool, bool, bool);
 
 /// How such a park ended, whether it was about to sleep, and what it was told of its moment.
 #[derive(Clone, Copy, PartialEq)]
-struct ParkEnd(Option<ParkResult>, bool, Option<(usize, bool)>);
+pub struct ParkEnd(Option<ParkResult>, bool, Option<(usize, bool)>);
 
 /// Parks a thread under key 3.
 fn parked<R: Wait + Clock>(
@@ -85,7 +85,12 @@ fn parked<R: Wait + Clock>(
 }
 
 /// Whether a thread that parks so ends so.
-fn parks<R: Wait + Clock>(rt: &R, lot: &ParkingLot<R>, how: Alone, must: ParkEnd) -> Option<bool> {
+pub fn parks<R: Wait + Clock>(
+    rt: &R,
+    lot: &ParkingLot<R>,
+    how: Alone,
+    must: ParkEnd,
+) -> Option<bool> {
     let mut me = lot.thread_data().ok()?;
     let timeout = if how.2 {
         Some((Instant::now(rt).ok()?, rt))
@@ -112,7 +117,7 @@ const ALONE: [(Alone, ParkEnd); 3] = [
 ];
 
 /// Whether an aborted requeue does nothing, and keys are claimed behind one another.
-fn is_aborted<R: Wait>(lot: &ParkingLot<R>) -> bool {
+pub fn is_aborted<R: Wait>(lot: &ParkingLot<R>) -> bool {
     let result = unpark_requeue(lot, 1, 2, || RequeueOp::Abort, |_, _| DEFAULT_UNPARK_TOKEN);
     let woken = unpark_all(lot, 1, DEFAULT_UNPARK_TOKEN);
     let first = lot.claim_keys(4);
@@ -121,7 +126,7 @@ fn is_aborted<R: Wait>(lot: &ParkingLot<R>) -> bool {
 }
 
 /// Whether a participant's resources are those that were acquired once more than released.
-fn records<R: Wait>(lot: &ParkingLot<R>) -> Result<bool, LotFault> {
+pub fn records<R: Wait>(lot: &ParkingLot<R>) -> Result<bool, LotFault> {
     let mut me = lot.thread_data()?;
     deadlock::acquire_resource(&mut me, 9)?;
     deadlock::acquire_resource(&mut me, 9)?;
@@ -154,7 +159,7 @@ fn a_word_lock_is_locked_again(rt: HostRuntime) {
 }
 
 /// Whether a thread's park ends by another's unpark.
-fn is_unparked<R: Wait + Threads + Clock + Sync>(rt: &R, lot: &ParkingLot<R>) -> Option<bool> {
+pub fn is_unparked<R: Wait + Threads + Clock + Sync>(rt: &R, lot: &ParkingLot<R>) -> Option<bool> {
     let mut me = lot.thread_data().ok()?;
     let over = AtomicUsize::new(0);
     let (ended, woke) = thread::join(
@@ -165,44 +170,19 @@ fn is_unparked<R: Wait + Threads + Clock + Sync>(rt: &R, lot: &ParkingLot<R>) ->
     Some(woke & (ended == Some(ParkResult::Unparked(UnparkToken(42)))))
 }
 
-/// What one thread tries, or two.
-#[derive(Clone, Copy)]
-enum Use {
-    Counts,
-    /// Parks alone, in one of three ways.
-    Parks(Alone, ParkEnd),
-    Fair,
-    Aborts,
-    Records,
-    Unparks,
-}
-
-impl<R: Wait + Threads + Clock + Sync> Trial<R> for Use {
-    fn goes(self, rt: &R, _alloc: Global, lot: &ParkingLot<R>) -> bool {
-        match self {
-            Use::Counts => are_counted(lot) == Some(true),
-            Use::Parks(how, must) => parks(rt, lot, how, must) == Some(true),
-            Use::Fair => sleepers::are_fair(lot, 129, false),
-            Use::Aborts => is_aborted(lot),
-            Use::Records => records(lot) == Ok(true),
-            Use::Unparks => is_unparked(rt, lot) == Some(true),
-        }
-    }
-}
-
 #[test]
 fn one_thread_or_two_use_a_lot(rt: HostRuntime) -> Result<(), Fail> {
-    for (name, used) in [
-        ("counts", Use::Counts),
-        ("each 64th unpark is fair", Use::Fair),
-        ("an aborted requeue", Use::Aborts),
-        ("resources", Use::Records),
-        ("one unparks another", Use::Unparks),
+    for (name, trial) in [
+        ("counts", Trial::Counts),
+        ("each 64th unpark is fair", Trial::FairUnparks),
+        ("an aborted requeue", Trial::Aborts),
+        ("resources", Trial::Records),
+        ("one unparks another", Trial::Unparks),
     ] {
-        assert!(rt; goes_well(rt, rt.alloc(), 2, used)?, "{name}");
+        assert!(rt; goes_well(rt, rt.alloc(), 2, trial)?, "{name}");
     }
     for (at, (how, must)) in ALONE.iter().enumerate() {
-        let well = goes_well(rt, rt.alloc(), 2, Use::Parks(*how, *must))?;
+        let well = goes_well(rt, rt.alloc(), 2, Trial::Parks(*how, *must))?;
         assert!(rt; well, "park {at} alone");
     }
     Ok(())

@@ -56,6 +56,14 @@ where
     }
 }
 
+/// Keeps a guard in a hand.
+pub fn keep<W: Drop, H: Hold>(hand: &mut Option<Guard<W, H>>, guard: Guard<W, H>)
+where
+    H::Runtime: Wait,
+{
+    *hand = Some(guard);
+}
+
 /// Ends the hold of a hand, fairly or not.
 pub fn end_by<W: Drop, H: FairHold>(hand: &mut Option<Guard<W, H>>, fairly: bool) -> Answer
 where

@@ -3,7 +3,7 @@
 use crate::calls::{
     Answer, Deed, How, Line, Mode, NOTHING, Round, Step, Tally, Verdict, WRONG, sum,
 };
-use crate::held::{add_under, end_by, write_by, write_under};
+use crate::held::{add_under, end_by, keep, write_by, write_under};
 use crate::kinds::AnyMutex;
 use crate::scene::Scene;
 use lock_api::{Mutex, MutexGuard};
@@ -52,7 +52,7 @@ fn ask_with<'m, M: AnyMutex, R: Clock>(
     }
     match ask(mutex, scene, how, party) {
         Some(guard) => {
-            *hand = Some(guard);
+            keep(hand, guard);
             Answer::Had
         }
         None => Answer::Refused,

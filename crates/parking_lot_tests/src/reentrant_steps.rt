@@ -1,7 +1,7 @@
 //! Steps of a thread at a reentrant mutex.
 
 use crate::calls::{Answer, Deed, How, Line, Mode, NOTHING, ONE, Step, Tally, Verdict, WRONG, sum};
-use crate::held::{end_by, look_by};
+use crate::held::{end_by, keep, look_by};
 use crate::kinds::{AnyMutex, Ids};
 use crate::scene::Scene;
 use lock_api::{ReadersFull, ReentrantMutex, ReentrantMutexGuard};
@@ -54,7 +54,7 @@ fn ask_with<'m, M: AnyMutex, G: Ids, R: Clock>(
     }
     match ask(mutex, scene, how, party) {
         Ok(Some(guard)) => {
-            *hand = Some(guard);
+            keep(hand, guard);
             Answer::Had
         }
         Ok(None) => Answer::Refused,

@@ -1,7 +1,7 @@
 //! Each name of a lock, of a guard and of what stands beside them stands in a signature, and each lock is made, taken
 //! and given back.
 
-use crate::lots::{Trial, goes_on_table};
+use crate::rows::{Trial, goes_on_table};
 use lock_api::{Guard, Mapped, TableFull};
 use lock_api_guards::{Hold, Lender, LenderMut};
 use lock_api_raw::{GetThreadId as _, MakeLock as _};
@@ -15,7 +15,6 @@ use parking_lot::{
     RwLockWriteGuard, WaitTimeoutResult,
 };
 use parking_lot_core::ThreadData;
-use std::alloc::Global;
 use std::sync::Wait;
 use std::test::Fail;
 use std::time::{Clock, Duration};
@@ -356,7 +355,7 @@ impl Named {
 }
 
 impl<R: Wait + Clock> Trial<R> for Named {
-    fn goes(self, rt: &R, _alloc: Global, rows: &LockTable<'_, R>) -> Result<bool, Fail> {
+    fn goes(self, rt: &R, rows: &LockTable<'_, R>) -> Result<bool, Fail> {
         let mut me = rows.lot().thread_data()?;
         Ok(self.goes_for(rt, rows, &mut me)?)
     }
