@@ -257,7 +257,10 @@ fn follow_together<R: Wait + Threads + Clock + Sync>(
 pub type Play = (&'static str, Made, u64, &'static [&'static [Line]]);
 
 /// A once on a new table.
-fn new_once<'t, 'l, R>(table: &'t LockTable<'l, R>, made: Made) -> Result<Once<'t, 'l, R>, TableFull> {
+fn new_once<'t, 'l, R>(
+    table: &'t LockTable<'l, R>,
+    made: Made,
+) -> Result<Once<'t, 'l, R>, TableFull> {
     match made {
         Made::New => Once::new(table),
         Made::ByDefault => Once::default(table),

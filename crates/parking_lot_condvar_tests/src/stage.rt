@@ -375,12 +375,12 @@ fn at<
     lots: &Lots<R>,
     table: &'s LockTable<'l, R>,
     condvar: &'s Condvar<V>,
-    mutexes: [&'s Mutex<M, u64>; 3],
-    play: &Play,
-) -> Result<Verdicts, Fail> {
-    let (_name, number, lines) = *play;
-    let [first, second, strange] = mutexes;
-    let past = Instant::now(rt)?;
+    mutexes: (&'s Mutex<M, u64>, &'s Mutex<M, u64>, &'s Mutex<M, u64>),
+    past: Instant,
+    number: u64,
+    lines: &[&[Line]],
+) -> Result<Verdicts, AllocError> {
+    let (first, second, strange) = mutexes;
     let scene = Scene {
         condvar,
         first,
@@ -392,7 +392,7 @@ fn at<
         past,
         later: past.checked_add(Duration::from_secs(50)).unwrap_or(past),
     };
-    Ok(follow_together(rt, alloc, lots, number, &scene, lines)?)
+    follow_together(rt, alloc, lots, number, &scene, lines)
 }
 
 /// Has them follow at a new condition variable.
@@ -401,14 +401,26 @@ fn on_tables<R: Wait + Threads + Clock + Sync>(
     alloc: Global,
     lots: &Lots<R>,
     tables: &Tables<'_, R>,
-    play: &Play,
+    number: u64,
+    lines: &[&[Line]],
 ) -> Result<Verdicts, Fail> {
     let condvar: Condvar<RawCondvar<'_, '_, R>> = Condvar::new(&tables.one)?;
     let first: Mutex<running::RawMutex<'_, '_, R>, u64> = Mutex::new(&tables.one, 0)?;
     let second: Mutex<running::RawMutex<'_, '_, R>, u64> = Mutex::new(&tables.one, 0)?;
     let strange: Mutex<running::RawMutex<'_, '_, R>, u64> = Mutex::new(&tables.other, 0)?;
-    let mutexes = [&first, &second, &strange];
-    at(rt, alloc, lots, &tables.one, &condvar, mutexes, play)
+    let past = Instant::now(rt)?;
+    let mutexes = (&first, &second, &strange);
+    Ok(at(
+        rt,
+        alloc,
+        lots,
+        &tables.one,
+        &condvar,
+        mutexes,
+        past,
+        number,
+        lines,
+    )?)
 }
 
 /// The same on new tables, and whether all words are 0 in the end.
@@ -419,7 +431,8 @@ fn on_lots<R: Wait + Threads + Clock + Sync>(
     play: &Play,
 ) -> Result<(Verdicts, bool), Fail> {
     let tables = two_tables(alloc, lots)?;
-    let verdicts = on_tables(rt, alloc, lots, &tables, play)?;
+    let (_name, number, lines) = *play;
+    let verdicts = on_tables(rt, alloc, lots, &tables, number, lines)?;
     Ok((
         verdicts,
         are_free(&tables.one, 3) & are_free(&tables.other, 1),
