@@ -86,6 +86,7 @@ const OF_ONE: &[Play] = &[
     ("alone", PLAIN, &[ALONE]),
     ("plain in time", PLAIN, &[IN_TIME]),
     ("fair in time", FAIR, &[IN_TIME]),
+    ("writes", FAIR, &[WRITES]),
 ];
 
 #[test]
@@ -181,13 +182,6 @@ const WRITES: &[Line] = &[
     END,
     (Step::Aside(Aside::Locked), Answer::No),
 ];
-
-const OF_A_FAIR_GUARD: &[Play] = &[("writes", FAIR, &[WRITES])];
-
-#[test]
-fn a_guard_of_a_fair_mutex_lends_what_was_written(rt: HostRuntime) -> Result<(), Fail> {
-    play_each(rt, rt.alloc(), OF_A_FAIR_GUARD)
-}
 
 /// Of a reentrant mutex of two holds the owner has a second one, in time too, and no third one, and another party none.
 const NESTED: &[Line] = &[
