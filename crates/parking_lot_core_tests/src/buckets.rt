@@ -29,23 +29,26 @@ fn new_buckets(alloc: Global, wide: bool, numbers: usize, retired: usize) -> Res
     Ok(buckets_of(&mut made?, numbers, retired)?)
 }
 
+/// Numbers given out of a lot whose threads have two each or one, how many are taken back, and the buckets then.
+const BUCKETS: &[(bool, usize, usize, usize)] = &[
+    (false, 0, 0, 16),
+    (false, 1, 0, 16),
+    (false, 5, 0, 16),
+    (false, 6, 0, 32),
+    (false, 6, 5, 32),
+    (false, 256, 0, 1024),
+    (true, 10, 0, 16),
+    (true, 11, 0, 32),
+    (true, 12, 0, 32),
+    (true, 512, 0, 1024),
+];
+
 #[test]
 fn threads_have_buckets(rt: HostRuntime) -> Result<(), Fail> {
-    for (wide, numbers, retired, buckets) in [
-        (false, 0, 0, 16),
-        (false, 1, 0, 16),
-        (false, 5, 0, 16),
-        (false, 6, 0, 32),
-        (false, 6, 5, 32),
-        (false, 256, 0, 1024),
-        (true, 10, 0, 16),
-        (true, 11, 0, 32),
-        (true, 12, 0, 32),
-        (true, 512, 0, 1024),
-    ] {
-        let count = new_buckets(rt.alloc(), wide, numbers, retired)?;
+    for (wide, numbers, retired, buckets) in BUCKETS {
+        let count = new_buckets(rt.alloc(), *wide, *numbers, *retired)?;
         assert!(rt;
-            count == buckets,
+            count == *buckets,
             "{numbers} numbers, wide {wide}: {count} buckets"
         );
     }
@@ -237,17 +240,19 @@ impl<R: Drop> Case<R> for Next {
     }
 }
 
+const NEXTS: &[Next] = &[
+    Next(5, 16, 32),
+    Next(8, 32, 32),
+    Next(10, 32, 64),
+    Next(16, 64, 64),
+];
+
 #[test]
 fn a_refused_growth_changes_nothing(rt: HostRuntime) {
-    for (next, growths) in [
-        (Next(5, 16, 32), 3),
-        (Next(8, 32, 32), 3),
-        (Next(10, 32, 64), 3),
-        (Next(16, 64, 64), 3),
-    ] {
-        let refused = make_in_turn(rt, rt.alloc(), next).unwrap_or(0);
+    for next in NEXTS {
+        let refused = make_in_turn(rt, rt.alloc(), *next).unwrap_or(0);
         let threads = next.0;
-        assert!(rt; refused == growths, "behind {threads}: {refused} growths");
+        assert!(rt; refused == 3, "behind {threads}: {refused} growths");
     }
 }
 

@@ -19,14 +19,6 @@ fn filling<A: Allocator + Copy + Drop>(
     Ok(kept)
 }
 
-/// Registers three threads, of which the first records a resource.
-fn enter<A: Allocator>(lot: &mut Lot<A>) -> Result<(), LotFault> {
-    for _thread in 0..3 {
-        lot.register()?;
-    }
-    lot.acquire_resource(0, 9)
-}
-
 /// Whether no list is told for want of memory.
 fn are_short<A: Allocator + Copy + Drop>(lot: &Lot<A>) -> bool {
     let short = Some(LotFault::NoMemory);
@@ -58,13 +50,16 @@ fn is_left<A: Allocator + Copy + Drop>(lot: &Lot<A>) -> Result<bool, LotFault> {
     Ok(queue.is_empty() & (resources.as_slice() == [9].as_slice()))
 }
 
-/// The same calls on a heap that is filled behind the registrations, and emptied in the end.
+/// The same calls on a heap that is filled behind three registrations, and emptied in the end.
 fn go_full<A: Allocator + Copy + Drop>(
     alloc: Global,
     heap: A,
     lot: &mut Lot<A>,
 ) -> Result<bool, Fail> {
-    enter(lot)?;
+    for _thread in 0..3 {
+        lot.register()?;
+    }
+    lot.acquire_resource(0, 9)?;
     let full = filling(alloc, heap)?;
     let well = go(lot);
     drop(full);

@@ -354,12 +354,8 @@ fn none_is_lost_while_buckets_grow(rt: HostRuntime) -> Result<(), Fail> {
 
 #[test]
 fn lists_of_a_bucket_stay(rt: HostRuntime) -> Result<(), Fail> {
-    for (threads, trial) in [(46, Trial::Neighbours), (4, Trial::Moved)] {
-        assert!(rt;
-            goes_well(rt, rt.alloc(), threads, trial)?,
-            "{threads} threads"
-        );
-    }
+    assert!(rt; goes_well(rt, rt.alloc(), 46, Trial::Neighbours)?);
+    assert!(rt; goes_well(rt, rt.alloc(), 4, Trial::Moved)?);
     Ok(())
 }
 
@@ -464,8 +460,8 @@ fn run_in_turn<R: Wait + Threads + Clock + Sync + Copy + Drop>(
 
 #[test]
 fn a_refused_growth_leaves_a_sleeper(rt: HostRuntime) {
-    for (threads, growths) in [(1, 1), (5, 2), (10, 2), (16, 3)] {
-        let refused = run_in_turn(rt, rt.alloc(), threads).unwrap_or(0);
-        assert!(rt; refused == growths, "behind {threads}: {refused} growths");
+    for (threads, growths) in &[(1, 1), (5, 2), (10, 2), (16, 3)] {
+        let refused = run_in_turn(rt, rt.alloc(), *threads).unwrap_or(0);
+        assert!(rt; refused == *growths, "behind {threads}: {refused} growths");
     }
 }

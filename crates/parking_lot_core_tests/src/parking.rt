@@ -7,16 +7,18 @@ use parking_lot_core::{Lot, LotFault, ParkResult, SizeFault, UnparkToken};
 use std::process::Abort;
 use std::test::Fail;
 
+const SIZES: &[(usize, Option<SizeFault>)] = &[
+    (0, Some(SizeFault::BadSize)),
+    (1, None),
+    (65_536, None),
+    (65_537, Some(SizeFault::BadSize)),
+];
+
 #[test]
 fn sizes_are_limited(rt: HostRuntime) {
-    for (size, fault) in [
-        (0, Some(SizeFault::BadSize)),
-        (1, None),
-        (65_536, None),
-        (65_537, Some(SizeFault::BadSize)),
-    ] {
-        let made = Lot::new(rt.alloc(), size, 7).err();
-        assert!(rt; made == fault, "{size} threads");
+    for (size, fault) in SIZES {
+        let made = Lot::new(rt.alloc(), *size, 7).err();
+        assert!(rt; made == *fault, "{size} threads");
     }
 }
 
@@ -127,24 +129,27 @@ fn is_named(rt: &impl Abort, code: u16, text: &str, name: &str, must: u16) {
     assert!(rt; (code == must) & (text == name), "{name}");
 }
 
+const REFUSALS: &[(LotFault, u16, &'static str)] = &[
+    (LotFault::TooManyThreads, 11, "TooManyThreads"),
+    (LotFault::Busy, 12, "Busy"),
+    (LotFault::WrongStatus, 13, "WrongStatus"),
+    (LotFault::NoMemory, 99, "NoMemory"),
+];
+
+const SIZE_REFUSALS: &[(SizeFault, u16, &'static str)] = &[
+    (SizeFault::BadSize, 20, "BadSize"),
+    (SizeFault::NoMemory, 99, "NoMemory"),
+];
+
 #[test]
 fn refusals_have_names_and_numbers(rt: HostRuntime) -> Result<(), Fail> {
-    let table = [
-        (LotFault::TooManyThreads, 11, "TooManyThreads"),
-        (LotFault::Busy, 12, "Busy"),
-        (LotFault::WrongStatus, 13, "WrongStatus"),
-        (LotFault::NoMemory, 99, "NoMemory"),
-    ];
-    for (fault, code, name) in table {
+    for (fault, code, name) in REFUSALS {
         let text = format!(in rt.alloc(); "{fault}")?;
-        is_named(&rt, fault.code(), text.as_str(), name, code);
+        is_named(&rt, fault.code(), text.as_str(), name, *code);
     }
-    for (fault, code, name) in [
-        (SizeFault::BadSize, 20, "BadSize"),
-        (SizeFault::NoMemory, 99, "NoMemory"),
-    ] {
+    for (fault, code, name) in SIZE_REFUSALS {
         let text = format!(in rt.alloc(); "{fault}")?;
-        is_named(&rt, fault.code(), text.as_str(), name, code);
+        is_named(&rt, fault.code(), text.as_str(), name, *code);
     }
     Ok(())
 }

@@ -374,16 +374,18 @@ pub fn hand_turns<R: Wait + Threads + Clock + Sync>(
     left & right & (turn.load(Ordering::SeqCst) == 0)
 }
 
+const TRIALS: &[(&'static str, usize, Trial)] = &[
+    ("a deadline behind a taking", 2, Trial::InTime),
+    ("a filter takes whom it wants", 3, Trial::Filters),
+    ("those that are requeued", 3, Trial::Requeues),
+    ("each 64th unpark or filter", 2, Trial::FairFilters),
+    ("a turn to and fro", 2, Trial::Turns),
+];
+
 #[test]
 fn sleepers_are_woken(rt: HostRuntime) -> Result<(), Fail> {
-    for (name, threads, trial) in [
-        ("a deadline behind a taking", 2, Trial::InTime),
-        ("a filter takes whom it wants", 3, Trial::Filters),
-        ("those that are requeued", 3, Trial::Requeues),
-        ("each 64th unpark or filter", 2, Trial::FairFilters),
-        ("a turn to and fro", 2, Trial::Turns),
-    ] {
-        assert!(rt; goes_well(rt, rt.alloc(), threads, trial)?, "{name}");
+    for (name, threads, trial) in TRIALS {
+        assert!(rt; goes_well(rt, rt.alloc(), *threads, *trial)?, "{name}");
     }
     Ok(())
 }

@@ -17,8 +17,8 @@ use std::time::{Clock, Instant};
 
 #[test]
 fn sizes_of_lots_for_threads_are_limited(rt: HostRuntime) {
-    for size in [0, 65_537] {
-        let made = ParkingLot::new(rt, rt.alloc(), size, 7).err();
+    for size in &[0, 65_537] {
+        let made = ParkingLot::new(rt, rt.alloc(), *size, 7).err();
         assert!(rt; made == Some(SizeFault::BadSize), "{size} threads");
     }
 }
@@ -170,16 +170,18 @@ pub fn is_unparked<R: Wait + Threads + Clock + Sync>(rt: &R, lot: &ParkingLot<R>
     Some(woke & (ended == Some(ParkResult::Unparked(UnparkToken(42)))))
 }
 
+const TRIALS: &[(&'static str, Trial)] = &[
+    ("counts", Trial::Counts),
+    ("each 64th unpark is fair", Trial::FairUnparks),
+    ("an aborted requeue", Trial::Aborts),
+    ("resources", Trial::Records),
+    ("one unparks another", Trial::Unparks),
+];
+
 #[test]
 fn one_thread_or_two_use_a_lot(rt: HostRuntime) -> Result<(), Fail> {
-    for (name, trial) in [
-        ("counts", Trial::Counts),
-        ("each 64th unpark is fair", Trial::FairUnparks),
-        ("an aborted requeue", Trial::Aborts),
-        ("resources", Trial::Records),
-        ("one unparks another", Trial::Unparks),
-    ] {
-        assert!(rt; goes_well(rt, rt.alloc(), 2, trial)?, "{name}");
+    for (name, trial) in TRIALS {
+        assert!(rt; goes_well(rt, rt.alloc(), 2, *trial)?, "{name}");
     }
     for (at, (how, must)) in ALONE.iter().enumerate() {
         let well = goes_well(rt, rt.alloc(), 2, Trial::Parks(*how, *must))?;

@@ -361,23 +361,25 @@ impl<R: Wait + Clock> Trial<R> for Named {
     }
 }
 
-/// The word of a once isn't 0 in the end.
+/// What is made, and whether all words are 0 in the end.
+const ALL: &[(&'static str, Named, bool)] = &[
+    ("the mutex", Named::Mutex, true),
+    ("the fair mutex", Named::Fair, true),
+    ("the lock", Named::ReadWrite, true),
+    ("the recursive lock", Named::Recursive, true),
+    ("the reentrant mutex", Named::Reentrant, true),
+    ("thread ids", Named::ThreadIds, true),
+    ("raw mutexes", Named::RawMutexes, true),
+    ("raw reader-writer locks", Named::RawLocks, true),
+    ("a condition variable", Named::Condvar, true),
+    ("a once", Named::Once, false),
+];
+
 #[test]
 fn what_is_named_is_taken_and_given_back(rt: HostRuntime) -> Result<(), Fail> {
-    for (name, named, are_free) in [
-        ("the mutex", Named::Mutex, true),
-        ("the fair mutex", Named::Fair, true),
-        ("the lock", Named::ReadWrite, true),
-        ("the recursive lock", Named::Recursive, true),
-        ("the reentrant mutex", Named::Reentrant, true),
-        ("thread ids", Named::ThreadIds, true),
-        ("raw mutexes", Named::RawMutexes, true),
-        ("raw reader-writer locks", Named::RawLocks, true),
-        ("a condition variable", Named::Condvar, true),
-        ("a once", Named::Once, false),
-    ] {
-        let went = goes_on_table(rt, rt.alloc(), 1, 2, named)?;
-        assert!(rt; went == (true, are_free), "{name}");
+    for (name, named, are_free) in ALL {
+        let went = goes_on_table(rt, rt.alloc(), 1, 2, *named)?;
+        assert!(rt; went == (true, *are_free), "{name}");
     }
     Ok(())
 }

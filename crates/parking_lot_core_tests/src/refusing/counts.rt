@@ -1,6 +1,6 @@
 //! Which growths are refused and counted, by one thread and by two.
 
-use super::vectors::{Items, push_all};
+use super::{Items, push_all};
 use refusing_heap::{Heap, Refusal, RefusingHeap};
 use std::test::Fail;
 use std::thread;
@@ -14,13 +14,13 @@ fn made(heap: &Heap) -> [bool; 3] {
 
 #[test]
 fn growths_are_numbered_from_1(rt: HostRuntime) {
-    for (refusal, answers, refused) in [
+    for (refusal, answers, refused) in &[
         (Refusal::Once(2), [true, false, true], 1),
         (Refusal::Onwards(2), [true, false, false], 2),
     ] {
-        let heap = RefusingHeap::new(rt.alloc(), refusal);
-        let is_so = made(&heap) == answers;
-        assert!(rt; is_so && heap.asked() == 3 && heap.refused() == refused);
+        let heap = RefusingHeap::new(rt.alloc(), *refusal);
+        let is_so = made(&heap) == *answers;
+        assert!(rt; is_so && heap.asked() == 3 && heap.refused() == *refused);
     }
 }
 

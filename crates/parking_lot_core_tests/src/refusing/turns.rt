@@ -1,6 +1,6 @@
 //! Growths refused in turn.
 
-use super::vectors::check;
+use super::check;
 use refusing_heap::{EachGrowthFault, Refusal, each_growth};
 use std::test::Fail;
 
