@@ -3,10 +3,11 @@
 use crate::fault::Fault;
 use crate::keys::{Leaping, Onward, Round};
 use crate::parallel::{TIMES, sum_often};
-use crate::threads::{Mix, Team, run};
+use crate::threads::{Mix, Task, Team, run_plain, run_sharded};
 use crate::walks::{count_all, keep_all, read_all, write_all};
 use crate::work::{
-    Fold, Map, Measured, Shared, Sip, churn, enter_all, look_up_all, map_over, put_all, take_all,
+    Fold, Map, Measured, Shared, Sip, ask_all, churn, enter_all, look_up_all, map_over, put_all,
+    take_all,
 };
 use dashmap_calls::workload::clock::report;
 use lock_api_raw::RawRwLock;
@@ -26,6 +27,7 @@ enum Deed {
     Insert,
     Hit,
     Miss,
+    Contains,
     EntryHit,
     EntryNew,
     Remove,
@@ -47,6 +49,7 @@ impl Deed {
             Deed::Insert => "st.insert",
             Deed::Hit => "st.get_hit",
             Deed::Miss => "st.get_miss",
+            Deed::Contains => "st.contains_hit",
             Deed::EntryHit => "st.entry_hit",
             Deed::EntryNew => "st.entry_new",
             Deed::Remove => "st.remove",
@@ -89,6 +92,7 @@ impl Deed {
             ),
             Deed::Hit => Ok(look_up_all::<Leaping<KEYS>, S, Q>(map, me, calls)),
             Deed::Miss => Ok(look_up_all::<Onward<KEYS>, S, Q>(map, me, calls)),
+            Deed::Contains => Ok(ask_all::<Leaping<KEYS>, S, Q>(map, me, calls)),
             Deed::EntryHit => enter_all::<Leaping<KEYS>, S, Q>(map, me, calls),
             Deed::EntryNew => enter_all::<Onward<0>, S, Q>(map, me, calls),
             Deed::Remove => Ok(take_all::<Leaping<KEYS>, S, Q>(map, me, calls)),
@@ -109,6 +113,7 @@ const DEEDS: [&[Deed]; 4] = [
         Deed::Insert,
         Deed::Hit,
         Deed::Miss,
+        Deed::Contains,
         Deed::EntryHit,
         Deed::Remove,
     ],
@@ -158,17 +163,38 @@ pub fn print_calls<R: Wait + Copy + Drop>(rt: &HostRuntime, handle: R) -> Result
     Ok(())
 }
 
-/// Prints a line for each mix of calls and each team of threads.
+/// Prints a line for a mix of calls and a team of threads, on the sharded map and on a plain one.
+fn print_team<R: Wait + Threads + Clock + Sync + Copy + Drop>(
+    rt: &HostRuntime,
+    handle: R,
+    task: Task,
+) -> Result<(), Fault> {
+    let told = [
+        ("dash_fold", run_sharded(handle, rt.alloc(), task)?),
+        ("plain_fold", run_plain(handle, rt.alloc(), task)?),
+    ];
+    for (name, told) in &told {
+        let nanos = told.took.as_secs_f64() * 1e9 / f64::from(task.count);
+        eprintln!(rt; "saw {}, left {}", told.saw, told.left)?;
+        println!(rt; "mt.{}.t{}.{name} {nanos}", task.mix.name, task.team.count())?;
+    }
+    Ok(())
+}
+
+/// Prints the lines of each mix of calls and each team of threads.
 pub fn print_teams<R: Wait + Threads + Clock + Sync + Copy + Drop>(
     rt: &HostRuntime,
     handle: R,
 ) -> Result<(), Fault> {
     for mix in Mix::ALL {
         for team in Team::ALL {
-            let told = run(handle, rt.alloc(), team, mix, 1 << 20, MANY)?;
-            let nanos = told.took.as_secs_f64() * 1e9 / f64::from(MANY);
-            eprintln!(rt; "saw {}, left {}", told.saw, told.left)?;
-            println!(rt; "mt.{}.t{}.dash_fold {nanos}", mix.name, team.count())?;
+            let task = Task {
+                team,
+                mix,
+                numbers: 1 << 20,
+                count: MANY,
+            };
+            print_team(rt, handle, task)?;
         }
     }
     Ok(())
@@ -233,8 +259,15 @@ pub fn small_run<R: Wait + Threads + Clock + Sync + Copy + Drop>(
     }
     for mix in Mix::ALL {
         for team in Team::ALL {
-            let told = run(handle, rt.alloc(), team, mix, 1 << 12, 4_000)?;
-            println!(rt; "mt.{}.t{} left {}", mix.name, team.count(), told.left)?;
+            let task = Task {
+                team,
+                mix,
+                numbers: 1 << 12,
+                count: 4_000,
+            };
+            let told = run_sharded(handle, rt.alloc(), task)?;
+            let plain = run_plain(handle, rt.alloc(), task)?;
+            println!(rt; "mt.{}.t{} left {}, {} by a plain map", mix.name, team.count(), told.left, plain.left)?;
         }
     }
     Ok(())

@@ -6,7 +6,8 @@
 //! - `st` prints a line for each call of one thread: its name and how many nanoseconds the call takes, with 1,000,000
 //!   keys and with
 //!   1,000.
-//! - `mt` prints a line for each mix of looks and insertions of one, two and four threads.
+//! - `mt` prints a line for each mix of looks and insertions of one, two and four threads, on the map and on a plain
+//!   map behind one lock of std.
 //! - `par` prints a line for a sum over 1,000,000 pairs by one, two and four threads, side by side.
 //! - `mem` fills a map with 1,000,000 pairs and prints how many it has, for a tool that counts the memory that is asked
 //!   for.
@@ -18,6 +19,7 @@
 //!   took.
 #![tactic(auto)]
 
+mod crowd;
 mod fault;
 mod keys;
 mod lines;

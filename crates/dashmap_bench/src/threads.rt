@@ -1,10 +1,10 @@
 //! Calls of several threads at once.
 
+use crate::crowd::{Crowd, Plain, Sharded};
 use crate::fault::Fault;
-use crate::work::{Fold, Map, Shared, map_over};
+use crate::work::{Fold, Shared, map_over};
 use dashmap_calls::workload::spread;
-use lock_api_raw::RawRwLock;
-use parking_lot_core::{ParkingLot, ThreadData};
+use parking_lot_core::ParkingLot;
 use parking_lot_rwlock::LockTable;
 use std::alloc::Global;
 use std::sync::Wait;
@@ -74,6 +74,19 @@ impl Mix {
     ];
 }
 
+/// A run: who makes how many calls of which kind, on keys of how many numbers.
+#[derive(Clone, Copy)]
+pub struct Task {
+    /// The threads.
+    pub team: Team,
+    /// Their calls.
+    pub mix: Mix,
+    /// How many numbers keys are made of.
+    pub numbers: u64,
+    /// How many calls they make in all.
+    pub count: u32,
+}
+
 /// What came of a run.
 #[derive(Drop)]
 pub struct Told {
@@ -85,18 +98,18 @@ pub struct Told {
     pub left: usize,
 }
 
-/// The keys of the numbers below so many, or those of them that lie in the shard of the first.
-fn keys_of<Q>(
+/// The keys of the numbers below so many, or those of them that lie in the part of the first.
+fn keys_of<P: Crowd>(
     alloc: Global,
-    map: &Map<Fold, Q>,
+    pairs: &P,
     is_crowded: bool,
     numbers: u64,
 ) -> Result<Vec<u64>, Fault> {
-    let shard = map.determine_map(&spread(0));
+    let part = pairs.part(&spread(0));
     let mut keys = Vec::new(alloc);
     for number in 0..numbers {
         let key = spread(number);
-        if !is_crowded || (keys.len() < OF_ONE_SHARD && map.determine_map(&key) == shard) {
+        if !is_crowded || (keys.len() < OF_ONE_SHARD && pairs.part(&key) == part) {
             keys.push(key)?;
         }
     }
@@ -104,12 +117,9 @@ fn keys_of<Q>(
 }
 
 /// Puts the first half of the keys in, each with the value 1.
-fn put_half<Q: RawRwLock>(map: &Map<Fold, Q>, me: &mut Q::Party, keys: &[u64]) -> Result<(), Fault>
-where
-    Q::Runtime: Wait,
-{
+fn put_half<P: Crowd>(pairs: &P, me: &mut P::Party, keys: &[u64]) -> Result<(), Fault> {
     for key in keys.iter().take(keys.len() / 2) {
-        if map.insert(*key, 1, me).is_err() {
+        if !pairs.put(*key, 1, me) {
             return Err(Fault);
         }
     }
@@ -126,17 +136,16 @@ fn stepped(number: u64) -> u64 {
 
 /// Makes so many calls of one thread, and answers the sum of the values that it saw.
 #[inline(never)]
-fn calls<Q: RawRwLock>(
-    map: &Map<Fold, Q>,
-    mut me: Q::Party,
+fn calls<P: Crowd>(
+    pairs: &P,
+    mut me: P::Party,
     keys: &[u64],
     looks: u64,
     seed: u64,
     count: u32,
 ) -> Result<u64, Fault>
 where
-    Q::Runtime: Wait,
-    Q::Party: Drop,
+    P::Party: Drop,
 {
     let mut number = spread(seed);
     let mut sum = 0u64;
@@ -145,10 +154,8 @@ where
         let at = (number >> 20) as usize & keys.len().wrapping_sub(1);
         let key = keys.get(at).copied().unwrap_or(0);
         if number % 100 < looks {
-            if let Some(value) = map.get(&key, &mut me) {
-                sum = sum.wrapping_add(*value);
-            }
-        } else if map.insert(key, number, &mut me).is_err() {
+            sum = sum.wrapping_add(pairs.look(&key, &mut me));
+        } else if !pairs.put(key, number, &mut me) {
             return Err(Fault);
         }
     }
@@ -162,70 +169,98 @@ fn both(sums: (Result<u64, Fault>, Result<u64, Fault>)) -> Result<u64, Fault> {
 }
 
 /// Two threads, each with its seed.
-fn two<R: Wait + Threads + Sync>(
+fn two<R: Threads, P: Crowd + Sync>(
     rt: &R,
-    map: &Shared<'_, '_, R, Fold>,
-    parties: (ThreadData, ThreadData),
+    pairs: &P,
+    parties: (P::Party, P::Party),
     keys: &[u64],
     looks: u64,
     seed: u64,
     count: u32,
-) -> Result<u64, Fault> {
+) -> Result<u64, Fault>
+where
+    P::Party: Drop + Send,
+{
     let (one, two) = parties;
     both(thread::join(
         rt,
-        || calls(map, one, keys, looks, seed, count),
-        || calls(map, two, keys, looks, seed.wrapping_add(1), count),
+        || calls(pairs, one, keys, looks, seed, count),
+        || calls(pairs, two, keys, looks, seed.wrapping_add(1), count),
     ))
 }
 
 /// The calls of all the threads of a team.
-fn together<R: Wait + Threads + Sync>(
+fn together<R: Threads + Sync, P: Crowd + Sync>(
     rt: &R,
-    map: &Shared<'_, '_, R, Fold>,
-    lot: &ParkingLot<R>,
+    pairs: &P,
     team: Team,
     keys: &[u64],
     looks: u64,
     count: u32,
-) -> Result<u64, Fault> {
-    let one = lot.thread_data()?;
+) -> Result<u64, Fault>
+where
+    P::Party: Drop + Send,
+{
+    let one = pairs.party()?;
     match team {
-        Team::One => calls(map, one, keys, looks, 1, count),
-        Team::Two => two(rt, map, (one, lot.thread_data()?), keys, looks, 1, count),
+        Team::One => calls(pairs, one, keys, looks, 1, count),
+        Team::Two => two(rt, pairs, (one, pairs.party()?), keys, looks, 1, count),
         Team::Four => {
-            let left = (one, lot.thread_data()?);
-            let right = (lot.thread_data()?, lot.thread_data()?);
+            let left = (one, pairs.party()?);
+            let right = (pairs.party()?, pairs.party()?);
             both(thread::join(
                 rt,
-                || two(rt, map, left, keys, looks, 1, count),
-                || two(rt, map, right, keys, looks, 3, count),
+                || two(rt, pairs, left, keys, looks, 1, count),
+                || two(rt, pairs, right, keys, looks, 3, count),
             ))
         }
     }
 }
 
-/// Fills a new map with half of the keys of so many numbers, and has a team make so many calls in all.
-pub fn run<R: Wait + Threads + Clock + Sync + Copy + Drop>(
+/// Fills what is shared with half of the keys of so many numbers, and has a team make so many calls in all.
+fn run_on<R: Threads + Clock + Sync, P: Crowd + Sync>(
+    rt: &R,
+    alloc: Global,
+    pairs: &P,
+    task: Task,
+) -> Result<Told, Fault>
+where
+    P::Party: Drop + Send,
+{
+    let mut me = pairs.party()?;
+    let keys = keys_of(alloc, pairs, task.mix.is_crowded, task.numbers)?;
+    put_half(pairs, &mut me, keys.as_slice())?;
+    let each = task.count / task.team.count().max(1);
+    let start = Instant::now(rt)?;
+    let saw = together(rt, pairs, task.team, keys.as_slice(), task.mix.looks, each)?;
+    Ok(Told {
+        took: start.elapsed(rt)?,
+        saw,
+        left: pairs.count(&mut me),
+    })
+}
+
+/// Has a team make its calls on a new sharded map.
+pub fn run_sharded<R: Wait + Threads + Clock + Sync + Copy + Drop>(
     rt: R,
     alloc: Global,
-    team: Team,
-    mix: Mix,
-    numbers: u64,
-    count: u32,
+    task: Task,
 ) -> Result<Told, Fault> {
     let lot = ParkingLot::new(rt, alloc, 5, 7)?;
     let table = LockTable::new(alloc, &lot, 16)?;
     let map: Shared<'_, '_, R, Fold> = map_over(alloc, &table)?;
-    let mut me = lot.thread_data()?;
-    let keys = keys_of(alloc, &map, mix.is_crowded, numbers)?;
-    put_half(&map, &mut me, keys.as_slice())?;
-    let each = count / team.count().max(1);
-    let start = Instant::now(&rt)?;
-    let saw = together(&rt, &map, &lot, team, keys.as_slice(), mix.looks, each)?;
-    Ok(Told {
-        took: start.elapsed(&rt)?,
-        saw,
-        left: map.len(&mut me),
-    })
+    let pairs = Sharded {
+        map: &map,
+        lot: &lot,
+    };
+    run_on(&rt, alloc, &pairs, task)
+}
+
+/// Has a team make its calls on a new plain map behind a lock of std.
+pub fn run_plain<R: Wait + Threads + Clock + Sync + Copy + Drop>(
+    rt: R,
+    alloc: Global,
+    task: Task,
+) -> Result<Told, Fault> {
+    run_on(&rt, alloc, &Plain::new(rt, alloc), task)
 }

@@ -97,6 +97,25 @@ where
     sum
 }
 
+/// How many of so many keys are there, without a look at their values.
+#[inline(never)]
+pub fn ask_all<W: Way, S: BuildHasher, Q: RawRwLock>(
+    map: &Map<S, Q>,
+    me: &mut Q::Party,
+    count: u64,
+) -> u64
+where
+    Q::Runtime: Wait,
+{
+    let mut found = 0u64;
+    for turn in 0..count {
+        if map.contains_key(&spread(W::number(turn)), me) {
+            found = found.wrapping_add(1);
+        }
+    }
+    found
+}
+
 /// The sum of the values that so many keys have once an absent one has 1.
 #[inline(never)]
 pub fn enter_all<W: Way, S: BuildHasher, Q: RawRwLock>(

@@ -174,6 +174,8 @@ where
 
     type Apart = Arc<ReentrantMutex<R, G, T>, A>;
 
+    type Rest = OwnedReentrant<R, G, T, A>;
+
     ghost lock_of = { λ hold. hold.lock };
 
     ghost apart_of = { λ lock. arc_value lock };
@@ -190,6 +192,14 @@ where
         let OwnedReentrant { lock, token } = self;
         lock.raw.unlock(token);
         lock
+    }
+
+    fn release_fast(self) -> Result<Arc<ReentrantMutex<R, G, T>, A>, OwnedReentrant<R, G, T, A>> {
+        Err(self)
+    }
+
+    fn release_slow(rest: OwnedReentrant<R, G, T, A>) {
+        let _lock = rest.release();
     }
 
     fn again(

@@ -156,12 +156,25 @@ where
         ensures lock { result.held.0.place.now ≡ self.now }
         ensures call { R.locked result.held.0.token }
     {
-        let token = self.raw.lock(party);
+        let token = match self.raw.lock_fast() {
+            Some(token) => token,
+            None => self.lock_slow(party),
+        };
         let hold = RawHold::new(self, token);
         match self.value.try_lock() {
             Some(inner) => Guard::over(hold, inner),
             None => Guard::under(hold),
         }
+    }
+
+    /// Waits for the raw mutex.
+    #[cold]
+    #[inline(never)]
+    fn lock_slow(&self, party: &mut R::Party) -> R::Guard
+        ensures issued { R.issued_by result ≡ R.number self.now }
+        ensures call { R.locked result }
+    {
+        self.raw.lock(party)
     }
 
     /// Takes the std lock of the value, by its own try first.

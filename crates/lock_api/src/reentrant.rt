@@ -345,6 +345,8 @@ where
 
     type Apart = &'l ReentrantMutex<R, G, T>;
 
+    type Rest = LockedReentrant<'l, R, G, T>;
+
     ghost lock_of = { λ hold. hold.lock };
 
     ghost apart_of = { λ lock. lock.now };
@@ -362,6 +364,16 @@ where
         let LockedReentrant { lock, token } = self;
         lock.raw.unlock(token);
         lock
+    }
+
+    #[inline(always)]
+    fn release_fast(self) -> Result<&'l ReentrantMutex<R, G, T>, LockedReentrant<'l, R, G, T>> {
+        Err(self)
+    }
+
+    #[inline(always)]
+    fn release_slow(rest: LockedReentrant<'l, R, G, T>) {
+        let _lock = rest.release();
     }
 
     fn again(

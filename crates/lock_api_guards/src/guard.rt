@@ -40,7 +40,10 @@ where
 {
     #[inline(always)]
     fn drop(self) {
-        let _apart = Guard::into_hold(self).release();
+        match Guard::into_hold(self).release_fast() {
+            Ok(_apart) => {}
+            Err(rest) => H::release_slow(rest),
+        }
     }
 }
 

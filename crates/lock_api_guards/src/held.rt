@@ -28,6 +28,9 @@ pub trait Hold {
     /// What is left of a hold once it is released, by which the lock can be had again.
     type Apart: Drop;
 
+    /// What is left of a release that its fast path couldn't end.
+    type Rest;
+
     /// The lock that a hold is of.
     ghost lock_of: { Self → Self.Lock };
 
@@ -50,6 +53,15 @@ pub trait Hold {
         Self::Runtime: Wait,
         ensures lock { apart_of result ≡ lock_of self }
         ensures call { released self result };
+
+    /// The fast path of a plain release, which waits for nobody. Where somebody may have to be woken it answers what is
+    /// left, which `release_slow` has to end.
+    fn release_fast(self) -> Result<Self::Apart, Self::Rest>;
+
+    /// The slow path of a plain release, which ends what its fast path left.
+    fn release_slow(rest: Self::Rest)
+    where
+        Self::Runtime: Wait;
 
     /// Waits for a hold of the same mode on the same lock.
     fn again(apart: Self::Apart, party: &mut Self::Party) -> Self

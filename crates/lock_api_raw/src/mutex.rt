@@ -1,5 +1,5 @@
 //! Raw locks with one kind of hold.
-ghost use Rattle.std.specs.Prelude.{◌≡◌, ℕ, ⊤, Bool, Option, IfSome};
+ghost use Rattle.std.specs.Prelude.{◌≡◌, ℕ, ⊤, Bool, Option, IfSome, MatchResult};
 
 use std::rt::Clock;
 use std::sync::Wait;
@@ -87,6 +87,34 @@ pub trait RawMutex {
         Self::Runtime: Wait,
         requires { issued_by guard ≡ number self.now }
         ensures { unlocked guard };
+
+    /// The fast path of `lock`: a token where one exchange gives it. It waits for nobody, and may answer None though
+    /// the lock is free; then `lock` is asked.
+    ///
+    /// ```text
+    /// let token = match raw.lock_fast() { Some(token) => token, None => raw.lock(&mut me) };
+    /// ```
+    #[inline(always)]
+    fn lock_fast(&self) -> Option<Self::Guard>
+        ensures issued { IfSome result (λ token. issued_by token ≡ number self.now) }
+        ensures call { IfSome result locked }
+    {
+        None
+    }
+
+    /// The fast path of `unlock`: it gives the lock up where nobody has to be woken, and else hands the token back, with
+    /// nothing changed; then `unlock` is asked. It waits for nobody.
+    ///
+    /// ```text
+    /// if let Err(token) = raw.unlock_fast(token) { raw.unlock(token); }
+    /// ```
+    #[inline(always)]
+    fn unlock_fast(&self, guard: Self::Guard) -> Result<(), Self::Guard>
+        requires { issued_by guard ≡ number self.now }
+        ensures { MatchResult result (λ _. unlocked guard) (λ same. same ≡ guard) }
+    {
+        Err(guard)
+    }
 
     /// Whether a hold was out at the moment of one look.
     ///

@@ -27,6 +27,9 @@ pub trait RawRwLock {
     /// The token of an exclusive hold.
     type ExclusiveGuard;
 
+    /// What is left of the release of a shared hold where its fast path couldn't end it.
+    type SharedRest;
+
     /// The number of the lock.
     ghost number: { Self → ℕ };
 
@@ -35,6 +38,9 @@ pub trait RawRwLock {
 
     /// The number of the lock that issued an exclusive token.
     ghost exclusive_by: { Self.ExclusiveGuard → ℕ };
+
+    /// The number of the lock whose hold was to be given up.
+    ghost rest_by: { Self.SharedRest → ℕ };
 
     /// The runtime that the lock keeps.
     ghost runtime_of: { Self → Self.Runtime };
@@ -53,6 +59,10 @@ pub trait RawRwLock {
 
     /// That a plain release spent the shared token. Of a raw lock of any type such a release alone gives it.
     ghost shared_unlocked: { Self.SharedGuard → Type 0 } = { λ _. ⊤ };
+
+    /// That the slow path ended what was left of a shared release. Of a raw lock of any type the slow path alone gives
+    /// it.
+    ghost shared_ended: { Self.SharedRest → Type 0 } = { λ _. ⊤ };
 
     /// That a plain release spent the exclusive token. Of a raw lock of any type such a release alone gives it.
     ghost exclusive_unlocked: { Self.ExclusiveGuard → Type 0 } = { λ _. ⊤ };
@@ -141,6 +151,70 @@ pub trait RawRwLock {
         Self::Runtime: Wait,
         requires { exclusive_by guard ≡ number self.now }
         ensures { exclusive_unlocked guard };
+
+    /// The fast path of `lock_shared`: a token where one exchange gives it. It waits for nobody, and may answer None
+    /// though there is room; then `lock_shared` is asked.
+    ///
+    /// ```text
+    /// let token = match raw.lock_shared_fast() { Some(token) => token, None => raw.lock_shared(&mut me) };
+    /// ```
+    #[inline(always)]
+    fn lock_shared_fast(&self) -> Option<Self::SharedGuard>
+        ensures issued { IfSome result (λ token. shared_by token ≡ number self.now) }
+        ensures call { IfSome result shared_locked }
+    {
+        None
+    }
+
+    /// The fast path of `unlock_shared`: it waits for nobody. Where somebody may have to be woken it answers what is
+    /// left, which `unlock_shared_slow` has to end.
+    ///
+    /// ```text
+    /// if let Err(rest) = raw.unlock_shared_fast(token) { raw.unlock_shared_slow(rest); }
+    /// ```
+    fn unlock_shared_fast(&self, guard: Self::SharedGuard) -> Result<(), Self::SharedRest>
+        requires { shared_by guard ≡ number self.now }
+        ensures { MatchResult result (λ _. shared_unlocked guard) (λ rest. rest_by rest ≡ number self.now) };
+
+    /// The slow path of `unlock_shared`, which ends what its fast path left. It may wait for the short sections in which
+    /// sleeping threads are woken.
+    ///
+    /// ```text
+    /// if let Err(rest) = raw.unlock_shared_fast(token) { raw.unlock_shared_slow(rest); }
+    /// ```
+    fn unlock_shared_slow(&self, rest: Self::SharedRest)
+    where
+        Self::Runtime: Wait,
+        requires { rest_by rest ≡ number self.now }
+        ensures { shared_ended rest };
+
+    /// The fast path of `lock_exclusive`: a token where one exchange gives it. It waits for nobody, and may answer None
+    /// though the lock is free; then `lock_exclusive` is asked.
+    ///
+    /// ```text
+    /// let token = match raw.lock_exclusive_fast() { Some(token) => token, None => raw.lock_exclusive(&mut me) };
+    /// ```
+    #[inline(always)]
+    fn lock_exclusive_fast(&self) -> Option<Self::ExclusiveGuard>
+        ensures issued { IfSome result (λ token. exclusive_by token ≡ number self.now) }
+        ensures call { IfSome result exclusive_locked }
+    {
+        None
+    }
+
+    /// The fast path of `unlock_exclusive`: it gives the hold up where nobody has to be woken, and else hands the token
+    /// back, with nothing changed; then `unlock_exclusive` is asked. It waits for nobody.
+    ///
+    /// ```text
+    /// if let Err(token) = raw.unlock_exclusive_fast(token) { raw.unlock_exclusive(token); }
+    /// ```
+    #[inline(always)]
+    fn unlock_exclusive_fast(&self, guard: Self::ExclusiveGuard) -> Result<(), Self::ExclusiveGuard>
+        requires { exclusive_by guard ≡ number self.now }
+        ensures { MatchResult result (λ _. exclusive_unlocked guard) (λ same. same ≡ guard) }
+    {
+        Err(guard)
+    }
 
     /// Whether any hold was out at the moment of one look.
     ///
@@ -394,6 +468,37 @@ pub trait RawRwLockUpgrade: RawRwLock {
         Self::Runtime: Wait,
         requires { upgradable_by guard ≡ Self.number self.now }
         ensures { upgradable_unlocked guard };
+
+    /// The fast path of `lock_upgradable`: a token where one exchange gives it. It waits for nobody, and may answer None
+    /// though there is room; then `lock_upgradable` is asked.
+    ///
+    /// ```text
+    /// let token = match raw.lock_upgradable_fast() { Some(token) => token, None => raw.lock_upgradable(&mut me) };
+    /// ```
+    #[inline(always)]
+    fn lock_upgradable_fast(&self) -> Option<Self::UpgradableGuard>
+        ensures issued { IfSome result (λ token. upgradable_by token ≡ Self.number self.now) }
+        ensures call { IfSome result upgradable_locked }
+    {
+        None
+    }
+
+    /// The fast path of `unlock_upgradable`: it gives the hold up where nobody has to be woken, and else hands the token
+    /// back, with nothing changed; then `unlock_upgradable` is asked. It waits for nobody.
+    ///
+    /// ```text
+    /// if let Err(token) = raw.unlock_upgradable_fast(token) { raw.unlock_upgradable(token); }
+    /// ```
+    #[inline(always)]
+    fn unlock_upgradable_fast(
+        &self,
+        guard: Self::UpgradableGuard,
+    ) -> Result<(), Self::UpgradableGuard>
+        requires { upgradable_by guard ≡ Self.number self.now }
+        ensures { MatchResult result (λ _. upgradable_unlocked guard) (λ same. same ≡ guard) }
+    {
+        Err(guard)
+    }
 
     /// Keeps new readers out at once, and waits until the other readers are gone. Nobody else is exclusive in between.
     ///

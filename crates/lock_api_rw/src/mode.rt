@@ -1,5 +1,5 @@
 //! The modes in which raw locks are held.
-ghost use Rattle.std.specs.Prelude.{◌≡◌, ℕ, ⊤, Option, IfSome};
+ghost use Rattle.std.specs.Prelude.{◌≡◌, ℕ, ⊤, Option, IfSome, MatchResult};
 
 use lock_api_raw::{
     RawMutex, RawMutexFair, RawMutexTimed, RawRwLock, RawRwLockFair, RawRwLockTimed,
@@ -24,11 +24,17 @@ pub trait Mode<R> {
     /// What a thread lends to a call that may wait.
     type Party;
 
+    /// What is left of a release that its fast path couldn't end.
+    type Rest;
+
     /// The number of a raw lock.
     ghost number: { R → ℕ };
 
     /// The number of the raw lock that issued a token.
     ghost issued_by: { Self.Token → ℕ };
+
+    /// The number of the raw lock whose hold was to be given up.
+    ghost rest_by: { Self.Rest → ℕ };
 
     /// That a blocking call gave the token. Where the mode is of any type, such a call alone gives it.
     ghost locked: { Self.Token → Type 0 } = { λ _. ⊤ };
@@ -57,6 +63,22 @@ pub trait Mode<R> {
         Self::Runtime: Wait,
         requires { issued_by token ≡ number raw.now }
         ensures { unlocked token };
+
+    /// The fast path of `lock`, which waits for nobody: None is no refusal.
+    fn lock_fast(raw: &R) -> Option<Self::Token>
+        ensures issued { IfSome result (λ token. issued_by token ≡ number raw.now) }
+        ensures call { IfSome result locked };
+
+    /// The fast path of `unlock`, which waits for nobody, or what is left of the release.
+    fn unlock_fast(raw: &R, token: Self::Token) -> Result<(), Self::Rest>
+        requires { issued_by token ≡ number raw.now }
+        ensures { MatchResult result (λ _. unlocked token) (λ rest. rest_by rest ≡ number raw.now) };
+
+    /// The slow path of `unlock`, which ends what its fast path left.
+    fn unlock_slow(raw: &R, rest: Self::Rest)
+    where
+        Self::Runtime: Wait,
+        requires { rest_by rest ≡ number raw.now };
 }
 
 /// A mode whose release can be fair. For the layer above.
@@ -154,9 +176,13 @@ impl<R: RawRwLock> Mode<R> for Shared {
 
     type Party = R::Party;
 
+    type Rest = R::SharedRest;
+
     ghost number = { λ raw. R.number raw };
 
     ghost issued_by = { λ token. R.shared_by token };
+
+    ghost rest_by = { λ rest. R.rest_by rest };
 
     ghost locked = { λ token. R.shared_locked token };
 
@@ -183,6 +209,23 @@ impl<R: RawRwLock> Mode<R> for Shared {
         R::Runtime: Wait,
     {
         raw.unlock_shared(token);
+    }
+
+    #[inline(always)]
+    fn lock_fast(raw: &R) -> Option<R::SharedGuard> {
+        raw.lock_shared_fast()
+    }
+
+    #[inline(always)]
+    fn unlock_fast(raw: &R, token: R::SharedGuard) -> Result<(), R::SharedRest> {
+        raw.unlock_shared_fast(token)
+    }
+
+    fn unlock_slow(raw: &R, rest: R::SharedRest)
+    where
+        R::Runtime: Wait,
+    {
+        raw.unlock_shared_slow(rest);
     }
 }
 
@@ -245,9 +288,13 @@ impl<R: RawRwLock> Mode<R> for Exclusive {
 
     type Party = R::Party;
 
+    type Rest = R::ExclusiveGuard;
+
     ghost number = { λ raw. R.number raw };
 
     ghost issued_by = { λ token. R.exclusive_by token };
+
+    ghost rest_by = { λ rest. R.exclusive_by rest };
 
     ghost locked = { λ token. R.exclusive_locked token };
 
@@ -274,6 +321,23 @@ impl<R: RawRwLock> Mode<R> for Exclusive {
         R::Runtime: Wait,
     {
         raw.unlock_exclusive(token);
+    }
+
+    #[inline(always)]
+    fn lock_fast(raw: &R) -> Option<R::ExclusiveGuard> {
+        raw.lock_exclusive_fast()
+    }
+
+    #[inline(always)]
+    fn unlock_fast(raw: &R, token: R::ExclusiveGuard) -> Result<(), R::ExclusiveGuard> {
+        raw.unlock_exclusive_fast(token)
+    }
+
+    fn unlock_slow(raw: &R, rest: R::ExclusiveGuard)
+    where
+        R::Runtime: Wait,
+    {
+        raw.unlock_exclusive(rest);
     }
 }
 
@@ -336,9 +400,13 @@ impl<R: RawRwLockUpgrade> Mode<R> for Upgradable {
 
     type Party = R::Party;
 
+    type Rest = R::UpgradableGuard;
+
     ghost number = { λ raw. R.number raw };
 
     ghost issued_by = { λ token. R.upgradable_by token };
+
+    ghost rest_by = { λ rest. R.upgradable_by rest };
 
     ghost locked = { λ token. R.upgradable_locked token };
 
@@ -365,6 +433,23 @@ impl<R: RawRwLockUpgrade> Mode<R> for Upgradable {
         R::Runtime: Wait,
     {
         raw.unlock_upgradable(token);
+    }
+
+    #[inline(always)]
+    fn lock_fast(raw: &R) -> Option<R::UpgradableGuard> {
+        raw.lock_upgradable_fast()
+    }
+
+    #[inline(always)]
+    fn unlock_fast(raw: &R, token: R::UpgradableGuard) -> Result<(), R::UpgradableGuard> {
+        raw.unlock_upgradable_fast(token)
+    }
+
+    fn unlock_slow(raw: &R, rest: R::UpgradableGuard)
+    where
+        R::Runtime: Wait,
+    {
+        raw.unlock_upgradable(rest);
     }
 }
 
@@ -427,9 +512,13 @@ impl<R: RawMutex> Mode<R> for Locked {
 
     type Party = R::Party;
 
+    type Rest = R::Guard;
+
     ghost number = { λ raw. R.number raw };
 
     ghost issued_by = { λ token. R.issued_by token };
+
+    ghost rest_by = { λ rest. R.issued_by rest };
 
     ghost locked = { λ token. R.locked token };
 
@@ -456,6 +545,23 @@ impl<R: RawMutex> Mode<R> for Locked {
         R::Runtime: Wait,
     {
         raw.unlock(token);
+    }
+
+    #[inline(always)]
+    fn lock_fast(raw: &R) -> Option<R::Guard> {
+        raw.lock_fast()
+    }
+
+    #[inline(always)]
+    fn unlock_fast(raw: &R, token: R::Guard) -> Result<(), R::Guard> {
+        raw.unlock_fast(token)
+    }
+
+    fn unlock_slow(raw: &R, rest: R::Guard)
+    where
+        R::Runtime: Wait,
+    {
+        raw.unlock(rest);
     }
 }
 

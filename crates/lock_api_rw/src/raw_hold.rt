@@ -159,6 +159,50 @@ impl<L: Place, M: Mode<<L::Lock as HasRaw>::Raw>> RawHold<L, M> {
     }
 }
 
+/// What is left of a release of a raw hold, and its lock. For the layer above.
+pub struct RawRest<L: Place, M: Mode<<L::Lock as HasRaw>::Raw>> {
+    place: L,
+    rest: M::Rest,
+    mode: PhantomData<M>,
+}
+
+impl<L: Place, M: Mode<<L::Lock as HasRaw>::Raw>> Model for RawRest<L, M> {
+    ghost use Rattle.std.specs.Prelude.{◌≡◌};
+    ghost use Rattle.lock_api_rw.specs.Holds.{Issued};
+
+    ghost Value = { Issued L M.Rest };
+
+    ghost view = { λ rest. record { place = rest.place; token = rest.rest } };
+
+    ghost invariant = { λ rest. M.rest_by rest.rest ≡ M.number (L.Lock.raw_of (L.lock_of rest.place)) };
+}
+
+impl<L: Place, M: Mode<<L::Lock as HasRaw>::Raw>> RawRest<L, M> {
+    /// Keeps what is left of a release at its lock.
+    #[inline(always)]
+    fn new(place: L, rest: M::Rest) -> RawRest<L, M>
+        requires { M.rest_by rest ≡ M.number (L.Lock.raw_of (L.lock_of place)) }
+    {
+        RawRest {
+            place,
+            rest,
+            mode: PhantomData,
+        }
+    }
+
+    /// The place and what is left.
+    fn into_parts(self) -> (L, M::Rest)
+        ensures { M.rest_by result.1 ≡ M.number (L.Lock.raw_of (L.lock_of result.0)) }
+    {
+        let RawRest {
+            place,
+            rest,
+            mode: _,
+        } = self;
+        (place, rest)
+    }
+}
+
 impl<L: Place, M: TimedMode<<L::Lock as HasRaw>::Raw>> RawHold<L, M>
 where
     M::Runtime: Wait,
@@ -205,6 +249,8 @@ impl<L: Place + Drop, M: Mode<<L::Lock as HasRaw>::Raw>> Hold for RawHold<L, M> 
 
     type Apart = L;
 
+    type Rest = RawRest<L, M>;
+
     ghost lock_of = { λ hold. L.lock_of hold.place };
 
     ghost apart_of = { λ place. L.lock_of place };
@@ -226,6 +272,25 @@ impl<L: Place + Drop, M: Mode<<L::Lock as HasRaw>::Raw>> Hold for RawHold<L, M> 
         let (place, token) = self.into_parts();
         M::unlock(place.lock().raw(), token);
         place
+    }
+
+    #[inline(always)]
+    fn release_fast(self) -> Result<L, RawRest<L, M>> {
+        let (place, token) = self.into_parts();
+        match M::unlock_fast(place.lock().raw(), token) {
+            Ok(()) => Ok(place),
+            Err(rest) => Err(RawRest::new(place, rest)),
+        }
+    }
+
+    #[cold]
+    #[inline(never)]
+    fn release_slow(rest: RawRest<L, M>)
+    where
+        M::Runtime: Wait,
+    {
+        let (place, rest) = rest.into_parts();
+        M::unlock_slow(place.lock().raw(), rest);
     }
 
     #[inline(always)]

@@ -321,12 +321,25 @@ where
         ensures lock { result.held.0.place.now ≡ self.now }
         ensures call { R.shared_locked result.held.0.token }
     {
-        let token = self.raw.lock_shared(party);
+        let token = match self.raw.lock_shared_fast() {
+            Some(token) => token,
+            None => self.lock_shared_slow(party),
+        };
         let hold = RawHold::new(self, token);
         match self.value.try_read() {
             Some(inner) => Guard::over(hold, inner),
             None => Guard::under(hold),
         }
+    }
+
+    /// Waits for a shared hold of the raw lock.
+    #[cold]
+    #[inline(never)]
+    fn lock_shared_slow(&self, party: &mut R::Party) -> R::SharedGuard
+        ensures issued { R.shared_by result ≡ R.number self.now }
+        ensures call { R.shared_locked result }
+    {
+        self.raw.lock_shared(party)
     }
 
     /// A shared guard at once, or None. It waits for nobody.
@@ -356,12 +369,25 @@ where
         ensures lock { result.held.0.place.now ≡ self.now }
         ensures call { R.exclusive_locked result.held.0.token }
     {
-        let token = self.raw.lock_exclusive(party);
+        let token = match self.raw.lock_exclusive_fast() {
+            Some(token) => token,
+            None => self.lock_exclusive_slow(party),
+        };
         let hold = RawHold::new(self, token);
         match self.value.try_write() {
             Some(inner) => Guard::over(hold, inner),
             None => Guard::under(hold),
         }
+    }
+
+    /// Waits for the exclusive hold of the raw lock.
+    #[cold]
+    #[inline(never)]
+    fn lock_exclusive_slow(&self, party: &mut R::Party) -> R::ExclusiveGuard
+        ensures issued { R.exclusive_by result ≡ R.number self.now }
+        ensures call { R.exclusive_locked result }
+    {
+        self.raw.lock_exclusive(party)
     }
 
     /// An exclusive guard at once, or None. It waits for nobody.
@@ -397,7 +423,25 @@ where
         ensures lock { result.held.0.place.now ≡ self.now }
         ensures call { R.upgradable_locked result.held.0.token }
     {
-        Guard::under(RawHold::wait(self, party))
+        let token = match self.raw.lock_upgradable_fast() {
+            Some(token) => token,
+            None => self.lock_upgradable_slow(party),
+        };
+        let hold = RawHold::new(self, token);
+        match self.value.try_read() {
+            Some(inner) => Guard::over(hold, inner),
+            None => Guard::under(hold),
+        }
+    }
+
+    /// Waits for the upgradable hold of the raw lock.
+    #[cold]
+    #[inline(never)]
+    fn lock_upgradable_slow(&self, party: &mut R::Party) -> R::UpgradableGuard
+        ensures issued { R.upgradable_by result ≡ R.number self.now }
+        ensures call { R.upgradable_locked result }
+    {
+        self.raw.lock_upgradable(party)
     }
 
     /// An upgradable guard at once, or None. It waits for nobody.

@@ -156,11 +156,15 @@ impl<R: Drop> RawRwLock for PackedLock<R> {
 
     type ExclusiveGuard = GuardSend;
 
+    type SharedRest = GuardSend;
+
     ghost number = { λ lock. lock.number };
 
     ghost shared_by = { λ token. token };
 
     ghost exclusive_by = { λ token. token };
+
+    ghost rest_by = { λ token. token };
 
     ghost runtime_of = { λ lock. lock.rt };
 
@@ -173,6 +177,8 @@ impl<R: Drop> RawRwLock for PackedLock<R> {
     ghost exclusive_tried = { λ _ answer. MatchOption answer (Missed TakeExclusive) (λ _. Made TakeExclusive) };
 
     ghost shared_unlocked = { λ _. Made GiveShared };
+
+    ghost shared_ended = { λ _. Made GiveShared };
 
     ghost exclusive_unlocked = { λ _. Made GiveExclusive };
 
@@ -198,6 +204,17 @@ impl<R: Drop> RawRwLock for PackedLock<R> {
     {
         guard.spend();
         self.turn_at_last(Turn::GiveShared);
+    }
+
+    fn unlock_shared_fast(&self, guard: GuardSend) -> Result<(), GuardSend> {
+        Err(guard)
+    }
+
+    fn unlock_shared_slow(&self, rest: GuardSend)
+    where
+        R: Wait,
+    {
+        self.unlock_shared(rest);
     }
 
     fn lock_exclusive(&self, _party: &mut u32) -> GuardSend

@@ -13,6 +13,7 @@
 //!   of threads at one time; `lot empty ROUNDS` unparks the first waiter of a key that has none.
 //! - `locks PAIR PAIRS` locks and unlocks so many times with nobody beside it, in the form that is named (`mutex`,
 //!   `read-in-time`, `upgrade-try`, `fair-guard`, `nested`, `std-write` ..), and prints what is left in the word.
+//! - `locks all PAIRS` does so in each form, and prints a line for each: its name and how many nanoseconds a pair took.
 //! - `locks turns ROUNDS` has two threads hand each kind of lock to one another, and prints what one turn took.
 #![tactic(auto)]
 
@@ -44,6 +45,7 @@ enum Call {
     LotPairs(u32),
     LotEmpty(u32),
     Locks(Pair, u32),
+    LocksAll(u32),
     Turns(u32),
 }
 
@@ -61,6 +63,7 @@ fn asked(rt: &HostRuntime) -> Option<Call> {
         ("lot", "pairs") => Some(Call::LotPairs(rounds)),
         ("lot", "empty") => Some(Call::LotEmpty(rounds)),
         ("locks", "turns") => Some(Call::Turns(rounds)),
+        ("locks", "all") => Some(Call::LocksAll(rounds)),
         ("locks", pair) => Some(Call::Locks(Pair::named(pair)?, rounds)),
         _ => None,
     }
@@ -110,6 +113,7 @@ fn told<R: Wait + Threads + Clock + Sync + Copy + Drop>(
             let word = pairs::pairs_of(rt, alloc, pair, count)?;
             Ok(format!(in alloc; "word {word}")?)
         }
+        Call::LocksAll(count) => pairs::told_times(rt, alloc, count),
         Call::Turns(rounds) => {
             let (mutex, lock) = turns::times_of(rt, alloc, rounds)?;
             Ok(format!(in alloc; "mutex {mutex} ns a turn, lock {lock} ns")?)
@@ -120,14 +124,14 @@ fn told<R: Wait + Threads + Clock + Sync + Copy + Drop>(
 fn main(rt: HostRuntime) -> ExitCode {
     let Some(call) = asked(&rt) else {
         let _ = eprintln!(rt;
-            "generic KIND ROUNDS, lot pair|pairs|empty ROUNDS, locks PAIR PAIRS, locks turns ROUNDS"
+            "generic KIND ROUNDS, lot pair|pairs|empty ROUNDS, locks PAIR|all PAIRS, locks turns ROUNDS"
         );
         return ExitCode::FAILURE;
     };
     let Ok(lines) = told(rt, rt.alloc(), call) else {
         return ExitCode::FAILURE;
     };
-    match println!(rt; "{lines}") {
+    match println!(rt; "{}", lines.as_str().trim_end()) {
         Ok(()) => ExitCode::SUCCESS,
         Err(_) => ExitCode::FAILURE,
     }

@@ -9,4 +9,4 @@ mod run;
 mod upgrades;
 
 pub use pair::Pair;
-pub use run::{all_pairs, pairs_of};
+pub use run::{all_pairs, pairs_of, told_times};

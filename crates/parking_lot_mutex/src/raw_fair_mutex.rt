@@ -152,6 +152,22 @@ impl<'t, 'l, R, A: Allocator> lock_api_raw::RawMutex for RawFairMutex<'t, 'l, R,
         self.unlock_fair(guard);
     }
 
+    #[inline(always)]
+    fn lock_fast(&self) -> Option<FairMutexToken> {
+        match self.mutex.lock_fast() {
+            Some(token) => Some(FairMutexToken::new(token)),
+            None => None,
+        }
+    }
+
+    #[inline(always)]
+    fn unlock_fast(&self, guard: FairMutexToken) -> Result<(), FairMutexToken> {
+        match self.mutex.unlock_fairly_fast(guard.into_inner()) {
+            Ok(()) => Ok(()),
+            Err(token) => Err(FairMutexToken::new(token)),
+        }
+    }
+
     fn is_locked(&self) -> bool {
         self.mutex.is_locked()
     }

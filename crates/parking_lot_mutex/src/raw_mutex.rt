@@ -85,6 +85,24 @@ impl<'t, 'l, R, A: Allocator> RawMutex<'t, 'l, R, A> {
         token.into_parts()
     }
 
+    /// The fast path of a fair release.
+    #[inline(always)]
+    pub(crate) fn unlock_fairly_fast(&self, guard: MutexToken) -> Result<(), MutexToken>
+        requires { number_of guard.0 guard.1 ≡ number_of self.now.row.mutex.now.word
+            ((self.now.row.table.now.first_key + 2 * self.now.row.number) % 2 ^ 64) }
+        ensures ended { IfOk result (λ _. (answer : CoreAnswer) × MutexEnded (Unlocking true) answer) }
+        ensures same { IfErr result (λ token. token ≡ guard) }
+    {
+        let (owner, key) = self.parts(guard);
+        match self.gives_up_at_once(UnlockFairly, owner) {
+            Ok(()) => {
+                key.end();
+                Ok(())
+            }
+            Err(owner) => Err(MutexToken::of(owner, key)),
+        }
+    }
+
     /// Two threads never hold this mutex: a program in which they did could go no further.
     ///
     /// ```text
@@ -267,6 +285,26 @@ impl<'t, 'l, R, A: Allocator> lock_api_raw::RawMutex for RawMutex<'t, 'l, R, A> 
     {
         if let Err(owner) = self.gives_up_at_once(Unlock, self.owner(guard)) {
             self.give_up(Unlock, owner);
+        }
+    }
+
+    #[inline(always)]
+    fn lock_fast(&self) -> Option<MutexToken> {
+        match self.locks_at_once() {
+            Some(owner) => Some(self.token(owner)),
+            None => None,
+        }
+    }
+
+    #[inline(always)]
+    fn unlock_fast(&self, guard: MutexToken) -> Result<(), MutexToken> {
+        let (owner, key) = self.parts(guard);
+        match self.gives_up_at_once(Unlock, owner) {
+            Ok(()) => {
+                key.end();
+                Ok(())
+            }
+            Err(owner) => Err(MutexToken::of(owner, key)),
         }
     }
 

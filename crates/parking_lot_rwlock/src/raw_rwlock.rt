@@ -14,7 +14,7 @@ mod calls;
 mod tries;
 
 use crate::full::Full;
-use crate::token::{ExclusiveToken, SharedToken, UpgradableToken};
+use crate::token::{ExclusiveToken, SharedRest, SharedToken, UpgradableToken};
 use lock_api_raw::{MakeLock, RawRwLock as _, RawRwLockDowngrade, RawRwLockFair, TableFull};
 use lock_word::{Exclusive, Reader, SharedWord, Upgradable};
 use parking_lot_core::ThreadData;
@@ -114,6 +114,15 @@ impl<'t, 'l, R, const RECURSIVE: u8, A: Allocator> RawRwLock<'t, 'l, R, RECURSIV
         ensures key { result.1 ≡ (self.now.row.table.now.first_key + 2 * self.now.row.number) % 2 ^ 64 }
     {
         UpgradableToken::of(right, self.key())
+    }
+
+    /// What is left of a release of a shared hold of this lock, which was taken off this word.
+    #[inline(always)]
+    fn shared_rest(&self, word: u64) -> SharedRest
+        ensures name { result.0 ≡ self.now.row.shared.now.word }
+        ensures key { result.1 ≡ (self.now.row.table.now.first_key + 2 * self.now.row.number) % 2 ^ 64 }
+    {
+        SharedRest::of(self.word().no_claim(), word, self.key())
     }
 
     /// The right to this lock for a token of it.
@@ -260,12 +269,16 @@ impl<'t, 'l, R, const RECURSIVE: u8, A: Allocator> lock_api_raw::RawRwLock
 
     type ExclusiveGuard = ExclusiveToken;
 
+    type SharedRest = SharedRest;
+
     ghost number = { λ lock. number_of lock.row.shared.now.word
         ((lock.row.table.now.first_key + 2 * lock.row.number) % 2 ^ 64) };
 
     ghost shared_by = { λ token. number_of token.0 token.1 };
 
     ghost exclusive_by = { λ token. number_of token.0 token.1 };
+
+    ghost rest_by = { λ rest. number_of rest.0 rest.1 };
 
     ghost runtime_of = { λ lock. lock.row.table.now.lot.now.rt };
 
@@ -281,6 +294,8 @@ impl<'t, 'l, R, const RECURSIVE: u8, A: Allocator> lock_api_raw::RawRwLock
         (λ _. RwAdmitted (Trying want.Exclusive)) };
 
     ghost shared_unlocked = { λ _. (answer : CoreAnswer) × RwEnded UnlockingShared answer };
+
+    ghost shared_ended = { λ _. (answer : CoreAnswer) × RwEnded UnlockingShared answer };
 
     ghost exclusive_unlocked = { λ _. (answer : CoreAnswer) × RwEnded (UnlockingExclusive false) answer };
 
@@ -348,6 +363,54 @@ impl<'t, 'l, R, const RECURSIVE: u8, A: Allocator> lock_api_raw::RawRwLock
         match self.word().end_write(self.exclusive_of(guard)) {
             Ok(()) => ended_at_once(StopWriting, WRITER, 0),
             Err((owner, word)) => self.unwrite_slowly(StopWriting, owner, word),
+        }
+    }
+
+    #[inline(always)]
+    fn lock_shared_fast(&self) -> Option<SharedToken> {
+        match self.reads_at_once() {
+            Some(reader) => Some(self.shared_token(reader)),
+            None => None,
+        }
+    }
+
+    #[inline(always)]
+    fn unlock_shared_fast(&self, guard: SharedToken) -> Result<(), SharedRest> {
+        let word = self.word().end_read(self.reader_of(guard));
+        if (word / WRITER_PARKED) % 2 == 0 {
+            let by = READER.wrapping_neg();
+            ended_by_sum(StopReading, by, word, CoreAnswer::Released);
+            Ok(())
+        } else {
+            Err(self.shared_rest(word))
+        }
+    }
+
+    fn unlock_shared_slow(&self, rest: SharedRest)
+    where
+        R: Wait,
+    {
+        self.unread_slowly(rest.into_word());
+    }
+
+    #[inline(always)]
+    fn lock_exclusive_fast(&self) -> Option<ExclusiveToken> {
+        match self.writes_at_once() {
+            Some(owner) => Some(self.exclusive_token(owner)),
+            None => None,
+        }
+    }
+
+    #[inline(always)]
+    fn unlock_exclusive_fast(&self, guard: ExclusiveToken) -> Result<(), ExclusiveToken> {
+        let (owner, key) = self.exclusive_parts(guard);
+        match self.word().end_write(owner) {
+            Ok(()) => {
+                key.end();
+                ended_at_once(StopWriting, WRITER, 0);
+                Ok(())
+            }
+            Err((owner, _word)) => Err(ExclusiveToken::of(owner, key)),
         }
     }
 

@@ -155,6 +155,28 @@ impl<'t, 'l, R, const RECURSIVE: u8, A: Allocator> RawRwLockUpgrade
     }
 
     #[inline(always)]
+    fn lock_upgradable_fast(&self) -> Option<UpgradableToken> {
+        match self.upgradable_at_once() {
+            Some(owner) => Some(self.upgradable_token(owner)),
+            None => None,
+        }
+    }
+
+    #[inline(always)]
+    fn unlock_upgradable_fast(&self, guard: UpgradableToken) -> Result<(), UpgradableToken> {
+        let (owner, key) = self.upgradable_parts(guard);
+        match self.disowns_at_once(owner) {
+            Ok(word) => {
+                key.end();
+                let less = word.wrapping_add((READER + UPGRADABLE).wrapping_neg());
+                ended_after_a_load(Disown, word, less, CoreAnswer::Released);
+                Ok(())
+            }
+            Err(owner) => Err(UpgradableToken::of(owner, key)),
+        }
+    }
+
+    #[inline(always)]
     fn upgrade(&self, guard: UpgradableToken, party: &mut ThreadData<A>) -> ExclusiveToken
     where
         R: Wait,

@@ -6,8 +6,9 @@
 //! those that want it, which contracts alone see. They may be handed to another thread. They can be neither copied nor
 //! dropped, so each is given back, and given back once.
 ghost use Rattle.std.specs.Prelude.{◌≡◌};
+ghost use Rattle.lock_word.specs.Rights.{nothing};
 
-use lock_word::{Exclusive, Reader, Upgradable};
+use lock_word::{Exclusive, Reader, SharedClaim, Upgradable};
 use parking_lot_driver::Key;
 use std::marker::Model;
 
@@ -52,6 +53,44 @@ impl SharedToken {
         let (right, key) = self.into_parts();
         key.end();
         right
+    }
+}
+
+/// What is left of a release of a shared hold: it was taken off this word, at which a writer may sleep until the readers
+/// have left.
+///
+/// Like a token it can be neither copied nor dropped: who has it still has to look whether to wake the writer.
+pub struct SharedRest {
+    claim: SharedClaim,
+    word: u64,
+    key: Key,
+    ghost none: { claim.held ≡ nothing },
+}
+
+impl Model for SharedRest {
+    ghost use Rattle.std.specs.Prelude.{ℕ};
+
+    ghost Value = { ℕ × ℕ };
+
+    ghost view = { λ rest. (rest.claim.name, rest.key.value) };
+}
+
+impl SharedRest {
+    /// What is left at this word, of a lock with this key.
+    #[inline(always)]
+    pub(crate) fn of(claim: SharedClaim, word: u64, key: Key) -> SharedRest
+        requires { claim.held ≡ nothing }
+        ensures { result ≡ (claim.name, key.value) }
+    {
+        SharedRest { claim, word, key }
+    }
+
+    /// The word.
+    pub(crate) fn into_word(self) -> u64 {
+        let SharedRest { claim, word, key } = self;
+        claim.end();
+        key.end();
+        word
     }
 }
 

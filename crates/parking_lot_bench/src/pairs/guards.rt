@@ -2,6 +2,7 @@
 
 use crate::fault::Fault;
 use lock_api::{Mutex, ReentrantMutex, RwLock};
+use lock_api_guards::Guard;
 use lock_api_raw::RawMutex;
 use parking_lot_core::ThreadData;
 use parking_lot_mutex::RawThreadId;
@@ -46,6 +47,30 @@ pub fn by_writer<R: Wait>(
 ) {
     for _pair in 0..pairs {
         let mut guard = lock.write(me);
+        *guard = guard.wrapping_add(1);
+    }
+}
+
+#[inline(never)]
+pub fn by_upgradable_guard<R: Wait>(
+    lock: &RwLock<RawRwLock<'_, '_, R, 0>, u64>,
+    me: &mut ThreadData,
+    pairs: u32,
+) {
+    for _pair in 0..pairs {
+        let _guard = lock.upgradable_read(me);
+    }
+}
+
+#[inline(never)]
+pub fn by_upgraded_guard<R: Wait>(
+    lock: &RwLock<RawRwLock<'_, '_, R, 0>, u64>,
+    me: &mut ThreadData,
+    pairs: u32,
+) {
+    for _pair in 0..pairs {
+        let guard = lock.upgradable_read(me);
+        let mut guard = Guard::upgrade(guard, me);
         *guard = guard.wrapping_add(1);
     }
 }

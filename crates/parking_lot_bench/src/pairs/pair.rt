@@ -31,11 +31,14 @@ pub enum Pair {
     UpgradeInTime,
     ToShared,
     ToUpgradable,
-    /// Guards of the generic locks over them: of the mutex, of the fair mutex, and of the reader-writer lock.
+    /// Guards of the generic locks over them: of the mutex, of the fair mutex, and of the reader-writer lock; there an
+    /// upgradable one too, and one that is upgraded before it is given up.
     Guard,
     FairGuard,
     Reader,
     Writer,
+    UpgradableGuard,
+    UpgradedGuard,
     /// The reentrant mutex, and a nested hold of it.
     Reentrant,
     Nested,
@@ -52,7 +55,7 @@ pub enum Pair {
 
 impl Pair {
     /// All of them.
-    pub const ALL: [Pair; 32] = [
+    pub const ALL: [Pair; 34] = [
         Pair::Mutex,
         Pair::MutexTry,
         Pair::MutexFairly,
@@ -77,6 +80,8 @@ impl Pair {
         Pair::FairGuard,
         Pair::Reader,
         Pair::Writer,
+        Pair::UpgradableGuard,
+        Pair::UpgradedGuard,
         Pair::Reentrant,
         Pair::Nested,
         Pair::NotifyOne,
@@ -93,7 +98,7 @@ impl Pair {
     }
 
     /// Its name.
-    fn name(self) -> &'static str {
+    pub fn name(self) -> &'static str {
         match self {
             Pair::Mutex => "mutex",
             Pair::MutexTry => "mutex-try",
@@ -119,6 +124,8 @@ impl Pair {
             Pair::FairGuard => "fair-guard",
             Pair::Reader => "reader",
             Pair::Writer => "writer",
+            Pair::UpgradableGuard => "upgradable-guard",
+            Pair::UpgradedGuard => "upgraded-guard",
             Pair::Reentrant => "reentrant",
             Pair::Nested => "nested",
             Pair::NotifyOne => "notify-one",

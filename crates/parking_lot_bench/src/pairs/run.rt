@@ -27,6 +27,23 @@ pub fn all_pairs<R: Wait + Clock + Copy + Drop>(
     Ok(sum)
 }
 
+/// Makes so many pairs of each kind, and answers a line for each: its name and how many nanoseconds a pair took.
+pub fn told_times<R: Wait + Clock + Copy + Drop>(
+    rt: R,
+    alloc: Global,
+    pairs: u32,
+) -> Result<String, Fault> {
+    let mut lines = String::new(alloc);
+    for pair in Pair::ALL {
+        let start = Instant::now(&rt)?;
+        pairs_of(rt, alloc, pair, pairs)?;
+        let nanos = start.elapsed(&rt)?.as_secs_f64() * 1e9 / f64::from(pairs);
+        let line = format!(in alloc; "lock.{} {nanos}\n", pair.name())?;
+        lines.push_str(line.as_str())?;
+    }
+    Ok(lines)
+}
+
 /// Makes so many pairs, and answers the word that is left; of a lock of std the value.
 pub fn pairs_of<R: Wait + Clock + Copy + Drop>(
     rt: R,
@@ -67,8 +84,10 @@ fn on_a_row<R: Wait + Clock + Copy + Drop>(
             raw::by_reading::<R, 1>(&RawRwLock::new(table, 100)?, me, pairs);
             Ok(())
         }
-        Pair::Guard | Pair::FairGuard | Pair::Reader | Pair::Writer => {
-            of_guards(table, me, pair, pairs)
+        Pair::Guard | Pair::FairGuard => of_mutex_guards(table, me, pair, pairs),
+        Pair::Reader | Pair::Writer | Pair::UpgradableGuard | Pair::UpgradedGuard => {
+            of_guards(&RwLock::new(table, 100, 0)?, me, pair, pairs);
+            Ok(())
         }
         Pair::Reentrant | Pair::Nested => {
             of_nested_holds(table, me, matches!(pair, Pair::Nested), pairs)
@@ -123,8 +142,8 @@ fn of_a_lock<R: Wait + Clock>(
     Ok(())
 }
 
-/// Pairs of guards.
-fn of_guards<R: Wait + Drop>(
+/// Pairs of guards of a mutex.
+fn of_mutex_guards<R: Wait + Drop>(
     table: &LockTable<'_, R>,
     me: &mut ThreadData,
     pair: Pair,
@@ -132,11 +151,24 @@ fn of_guards<R: Wait + Drop>(
 ) -> Result<(), Fault> {
     match pair {
         Pair::Guard => guards::by_guard::<RawMutex<R>>(&Mutex::new(table, 0)?, me, pairs),
-        Pair::FairGuard => guards::by_guard::<RawFairMutex<R>>(&Mutex::new(table, 0)?, me, pairs),
-        Pair::Reader => guards::by_reader(&RwLock::new(table, 100, 0)?, me, pairs),
-        _ => guards::by_writer(&RwLock::new(table, 100, 0)?, me, pairs),
+        _ => guards::by_guard::<RawFairMutex<R>>(&Mutex::new(table, 0)?, me, pairs),
     }
     Ok(())
+}
+
+/// Pairs of guards of a reader-writer lock.
+fn of_guards<R: Wait>(
+    lock: &RwLock<RawRwLock<'_, '_, R, 0>, u64>,
+    me: &mut ThreadData,
+    pair: Pair,
+    pairs: u32,
+) {
+    match pair {
+        Pair::Reader => guards::by_reader(lock, me, pairs),
+        Pair::Writer => guards::by_writer(lock, me, pairs),
+        Pair::UpgradableGuard => guards::by_upgradable_guard(lock, me, pairs),
+        _ => guards::by_upgraded_guard(lock, me, pairs),
+    }
 }
 
 /// Pairs of a reentrant mutex, which is held beside them where they are to be nested.
